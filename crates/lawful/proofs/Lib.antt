@@ -1,0 +1,3 @@
+pub mod Equals
+pub mod Grid
+pub mod Sealed
