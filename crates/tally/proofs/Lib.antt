@@ -1,0 +1,3 @@
+mod Countings
+mod Inputs
+mod Pushes

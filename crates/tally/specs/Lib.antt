@@ -1,0 +1,5 @@
+pub mod Counting
+pub mod Input
+pub mod Parts
+pub mod Report
+pub mod Steps
