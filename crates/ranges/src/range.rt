@@ -157,8 +157,11 @@ pub enum ProductArg<T> {
 // The answer of `product`.
 #[derive(Clone, Copy)]
 pub struct Product<T> {
+    // what the range that starts earlier has below the start of the other
     pub before: Option<ProductArg<T>>,
+    // the shared keys, if any
     pub intersection: Option<AnyRange<T>>,
+    // what the range that ends later has above the end of the other
     pub after: Option<ProductArg<T>>,
 }
 

@@ -1,5 +1,4 @@
 // A range by its two ends, and what it holds.
-ghost use Prim.Native.Nat.{_-_};
 ghost use mathlib.Core.Path.{_≡_};
 ghost use Rattle.std.specs.Orderings.{Decides};
 ghost use Rattle.ranges.specs.Ranges.{Same, joined, vacant, size};

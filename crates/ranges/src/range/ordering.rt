@@ -8,7 +8,6 @@ ghost use Rattle.ranges.specs.Ranges.{Span, Lies, Ordered, precedes, reaches};
 ghost use Rattle.ranges.specs.Parts.{span};
 use crate::range::any::AnyRange;
 use crate::range::bound::Directed;
-use crate::range::bound::DirectedClone;
 use lawful::Key;
 use std::cmp::Ordering;
 use std::ops::Bound;
@@ -65,26 +64,22 @@ impl<K: Key> AnyRange<K> {
         if self.is_empty() || other.is_empty() {
             return None;
         }
-        match direct_bound_cmp(self.start, other.start, true) {
-            BoundOrdering::Included(limit_before) => match inverse_bound_cmp(
-                self.start,
-                other.end,
-                false,
-            ) {
-                BoundOrdering::Included(_) => {
-                    let limit_after = direct_bound_eq(self.end, other.end, false);
-                    Some(RangeOrdering::Intersecting(limit_before, limit_after))
+        let limit_after = direct_bound_eq(self.end, other.end, false);
+        let order = match direct_bound_cmp(self.start, other.start, true) {
+            BoundOrdering::Included(limit_before) => {
+                match inverse_bound_cmp(self.start, other.end, false) {
+                    BoundOrdering::Included(_) => {
+                        RangeOrdering::Intersecting(limit_before, limit_after)
+                    }
+                    BoundOrdering::Excluded(touching) => RangeOrdering::After(touching),
                 }
-                BoundOrdering::Excluded(connected) => Some(RangeOrdering::After(connected)),
-            },
+            }
             BoundOrdering::Excluded(_) => match inverse_bound_cmp(self.end, other.start, true) {
-                BoundOrdering::Included(_) => {
-                    let limit_after = direct_bound_eq(self.end, other.end, false);
-                    Some(RangeOrdering::Intersecting(false, limit_after))
-                }
-                BoundOrdering::Excluded(connected) => Some(RangeOrdering::Before(connected)),
+                BoundOrdering::Included(_) => RangeOrdering::Intersecting(false, limit_after),
+                BoundOrdering::Excluded(touching) => RangeOrdering::Before(touching),
             },
-        }
+        };
+        Some(order)
     }
 }
 
@@ -194,7 +189,7 @@ fn is_beside_limit<K: Key>(k: K, first: bool) -> bool
     }
 }
 
-// Two ends at their keys, or both one step beyond.
+// Two ends whose places lie as their keys do.
 fn level<K: Key>(v1: K, v2: K, start: bool) -> BoundOrdering
     ensures { λ r. ⌜ Compares start (K·Key .place v1) (K·Key .place v2) r ⌝ }
 {
@@ -210,7 +205,7 @@ fn level<K: Key>(v1: K, v2: K, start: bool) -> BoundOrdering
     }
 }
 
-// Two ends that at one key stand side by side, the first on the side that the second leaves out.
+// Two ends that stand side by side where their keys are one, the first on the side that the second leaves out.
 fn aside<K: Key>(v1: K, v2: K, start: bool) -> BoundOrdering
     ensures { λ r. ⌜ Compares start (K·Key .place v1 + cond start 0 1) (K·Key .place v2 + cond start 1 0) r ⌝ }
 {
