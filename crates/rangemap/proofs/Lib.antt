@@ -1,0 +1,11 @@
+pub mod Orders
+pub mod Rising
+pub mod Helds
+pub mod Looks
+pub mod Walking
+pub mod Gapping
+pub mod Takes
+pub mod Gives
+pub mod Walked
+pub mod Puts
+pub mod Edits

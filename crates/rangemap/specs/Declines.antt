@@ -1,0 +1,23 @@
+-- Why a change is declined, by number.
+use Prim.Native.Nat.{ℕ}
+use Rattle.std.specs.declared.result.Result.{Result}
+use Rattle.std.specs.declared.result.Result.the-variants.{Ok, Err}
+use Rattle.ledger.specs.Ledger.{Answer, ranges, declined}
+use Rattle.ranges.specs.declared.range.any.AnyRange.{AnyRange}
+use Rattle.rangemap.specs.declared.decline.Decline.{Decline}
+use Rattle.rangemap.specs.declared.decline.Decline.the-variants.{EmptyRange, Connected, Full}
+
+abbrev pub number : Decline → ℕ
+number EmptyRange = 9
+number Connected = 10
+number Full = 11
+
+-- what a change answered
+abbrev pub answer : {V : Type 0} → Result ℕ Decline → Answer V
+answer (Ok n) = ranges n
+answer (Err why) = declined (number why)
+
+-- what insert_disconnected answered, with the range and the value handed back
+abbrev pub answerOr : {K V : Type 0} → Result ℕ (Decline × (AnyRange K × V)) → Answer V
+answerOr (Ok n) = ranges n
+answerOr (Err e) = declined (number (e .0))

@@ -1,0 +1,17 @@
+// The map: items in rising order, in memory that was set aside when the map was made.
+ghost use Prim.Native.Nat.{_+_, _≤_, _<_};
+ghost use Rattle.std.specs.Of.Vec.{vec-len, vec-cap};
+use super::item::Item;
+
+mod changes;
+mod making;
+mod reads;
+pub mod walkers;
+
+#[derive(Drop)]
+pub struct RangeMap<K, V> {
+    items: Vec<Item<K, V>>,
+    slots: usize,
+    ghost few: { vec-len items ≤ slots },
+    ghost roomy: { slots < vec-cap items },
+}
