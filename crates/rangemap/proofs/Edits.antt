@@ -25,8 +25,8 @@ use Rattle.ledger.proofs.Calls.{book, Results, step-like, offer-accepted, offer
 use Rattle.rangemap.specs.declared.item.Item.{Item}
 use Rattle.ranges.specs.declared.range.any.AnyRange.{AnyRange}
 use Rattle.rangemap.specs.declared.map.RangeMap.{RangeMap}
-use Rattle.rangemap.specs.Items.{span, spans}
-use Rattle.rangemap.specs.Maps.{listed, Rises-in, Does}
+use Rattle.rangemap.specs.Items.{spanAt, spans}
+use Rattle.rangemap.specs.Maps.{stored, Rises-in, Does}
 use Rattle.rangemap.specs.Search.{Rising, Last, Stands, Searched}
 use Rattle.rangemap.specs.Cuts.{cut}
 use Rattle.rangemap.proofs.Helds.{held-stands, held-joined}
@@ -38,48 +38,48 @@ use Rattle.rangemap.proofs.Takes.{held-cut, canonical-cut}
 
 module _ {K V : Type 0} (keys : Ghosts K) (eq : V → V → Bool) (law : Equality eq) (m : RangeMap K V) (low high : ℕ) where
   -- nothing is held in the range, and the map stays
-  pub does-remove-none : (k : ℕ) → k ≡ vec-len (m .items) → (Rises-in keys m → (p : ℕ) → low ≤ p → p < high → held (listed keys m) p ≡ None) → Does keys eq m (remove low high) (ranges k) m
+  pub does-remove-none : (k : ℕ) → k ≡ vec-len (m .items) → (Rises-in keys m → (p : ℕ) → low ≤ p → p < high → held (stored keys m) p ≡ None) → Does keys eq m (remove low high) (ranges k) m
   does-remove-none k e n =
       record {
         slots = refl;
         link = λ c.
-            subst (λ i. Step eq (keys .count) (m .slots) (listed keys m) (record { call = remove low high; answer = ranges i }) (listed keys m)) (sym (e ∙ len-listed keys m))
-            (step-like eq law (keys .count) (m .slots) (listed keys m) (remove low high) (ranges (length (listed keys m))) (listed keys m) c
-            (offer-accepted eq law (keys .count) (m .slots) (listed keys m) (changed (remove low high) (held (listed keys m))) (listed keys m) c
+            subst (λ i. Step eq (keys .count) (m .slots) (stored keys m) (record { call = remove low high; answer = ranges i }) (stored keys m)) (sym (e ∙ len-listed keys m))
+            (step-like eq law (keys .count) (m .slots) (stored keys m) (remove low high) (ranges (length (stored keys m))) (stored keys m) c
+            (offer-accepted eq law (keys .count) (m .slots) (stored keys m) (changed (remove low high) (held (stored keys m))) (stored keys m) c
             (λ p i. same-eq eq law _ _ (go (c .rises) p (cases-bool (within low high p)))) (omega (arith, len-listed keys m, m .few))));
       }
     where
-      go : Rises-in keys m → (p : ℕ) → (within low high p ≡ true) ⊎ (within low high p ≡ false) → held (listed keys m) p ≡ cond (within low high p) None (held (listed keys m) p)
+      go : Rises-in keys m → (p : ℕ) → (within low high p ≡ true) ⊎ (within low high p ≡ false) → held (stored keys m) p ≡ cond (within low high p) None (held (stored keys m) p)
       go r p (inl t) = let b = within-parts low high p t in n r p (b .0) (b .1) ∙ sym (cond-true _ _ _ t)
       go r p (inr t) = sym (cond-false _ _ _ t)
 
   -- the range is cut out
-  pub does-remove : (n : RangeMap K V) (k : ℕ) → n .slots ≡ m .slots → k ≡ vec-len (n .items) → low < high → (Rising (listed keys m) → listed keys n ≡ cut low high (listed keys m)) →
+  pub does-remove : (n : RangeMap K V) (k : ℕ) → n .slots ≡ m .slots → k ≡ vec-len (n .items) → low < high → (Rising (stored keys m) → stored keys n ≡ cut low high (stored keys m)) →
       Does keys eq m (remove low high) (ranges k) n
   does-remove n k b e lt t =
       record {
         slots = b;
         link = λ c.
             let f = t (keys .count, c .rises) in
-            let d : Canonical eq (keys .count) (listed keys n) = subst (Canonical eq (keys .count)) (sym f) (canonical-cut low high lt eq (keys .count) (listed keys m) c) in
-            subst (λ i. Step eq (keys .count) (m .slots) (listed keys m) (record { call = remove low high; answer = ranges i }) (listed keys n)) (sym (e ∙ len-listed keys n))
-            (step-like eq law (keys .count) (m .slots) (listed keys m) (remove low high) (ranges (length (listed keys n))) (listed keys n) d
-            (offer-accepted eq law (keys .count) (m .slots) (listed keys m) (changed (remove low high) (held (listed keys m))) (listed keys n) d
-            (λ p i. same-eq eq law _ _ (ap (λ ys. held ys p) f ∙ held-cut low high (listed keys m) p)) (omega (arith, len-listed keys n, n .few, b))));
+            let d : Canonical eq (keys .count) (stored keys n) = subst (Canonical eq (keys .count)) (sym f) (canonical-cut low high lt eq (keys .count) (stored keys m) c) in
+            subst (λ i. Step eq (keys .count) (m .slots) (stored keys m) (record { call = remove low high; answer = ranges i }) (stored keys n)) (sym (e ∙ len-listed keys n))
+            (step-like eq law (keys .count) (m .slots) (stored keys m) (remove low high) (ranges (length (stored keys n))) (stored keys n) d
+            (offer-accepted eq law (keys .count) (m .slots) (stored keys m) (changed (remove low high) (held (stored keys m))) (stored keys n) d
+            (λ p i. same-eq eq law _ _ (ap (λ ys. held ys p) f ∙ held-cut low high (stored keys m) p)) (omega (arith, len-listed keys n, n .few, b))));
       }
 
   -- there is no slot for the result
   pub does-remove-full : (n : RangeMap K V) → n .slots ≡ m .slots → low < high →
-      (Rising (listed keys m) → (listed keys n ≡ listed keys m) × (m .slots < length (cut low high (listed keys m)))) → Does keys eq m (remove low high) (declined 11) n
+      (Rising (stored keys m) → (stored keys n ≡ stored keys m) × (m .slots < length (cut low high (stored keys m)))) → Does keys eq m (remove low high) (declined 11) n
   does-remove-full n b lt t =
       record {
         slots = b;
         link = λ c.
             let f = t (keys .count, c .rises) in
-            subst (λ ys. Step eq (keys .count) (m .slots) (listed keys m) (record { call = remove low high; answer = declined 11 }) ys) (sym (f .0))
-            (step-like eq law (keys .count) (m .slots) (listed keys m) (remove low high) (declined 11) (listed keys m) c
-            (offer-full eq law (keys .count) (m .slots) (listed keys m) (changed (remove low high) (held (listed keys m))) (cut low high (listed keys m)) (canonical-cut low high lt eq (keys .count) (listed keys m) c)
-            (λ p i. same-eq eq law _ _ (held-cut low high (listed keys m) p)) (f .1)));
+            subst (λ ys. Step eq (keys .count) (m .slots) (stored keys m) (record { call = remove low high; answer = declined 11 }) ys) (sym (f .0))
+            (step-like eq law (keys .count) (m .slots) (stored keys m) (remove low high) (declined 11) (stored keys m) c
+            (offer-full eq law (keys .count) (m .slots) (stored keys m) (changed (remove low high) (held (stored keys m))) (cut low high (stored keys m)) (canonical-cut low high lt eq (keys .count) (stored keys m) c)
+            (λ p i. same-eq eq law _ _ (held-cut low high (stored keys m) p)) (f .1)));
       }
 
 -- p is within the range, or just before or after it
@@ -109,37 +109,37 @@ module _ {K V : Type 0} (keys : Ghosts K) (eq : V → V → Bool) (law : Equalit
   call = insert-disconnected (ends keys key .low) (ends keys key .high) v
 
   -- declined with the number n, the map stays
-  declines : (n : ℕ) → (Canonical eq (keys .count) (listed keys m) →
-      Results eq law (keys .count) (m .slots) (listed keys m) (declined n) (listed keys m) (outcome eq (keys .count) (book eq law (keys .count) (m .slots) (listed keys m)) call)) → Does keys eq m call (declined n) m
-  declines n f = record { slots = refl; link = λ c. step-like eq law (keys .count) (m .slots) (listed keys m) call (declined n) (listed keys m) c (f c) }
+  declines : (n : ℕ) → (Canonical eq (keys .count) (stored keys m) →
+      Results eq law (keys .count) (m .slots) (stored keys m) (declined n) (stored keys m) (outcome eq (keys .count) (book eq law (keys .count) (m .slots) (stored keys m)) call)) → Does keys eq m call (declined n) m
+  declines n f = record { slots = refl; link = λ c. step-like eq law (keys .count) (m .slots) (stored keys m) call (declined n) (stored keys m) c (f c) }
 
   pub does-empty : ends keys key .high ≤ ends keys key .low → Does keys eq m call (declined 9) m
-  does-empty l = declines 9 (λ c. disconnected-empty eq law (keys .count) (m .slots) (listed keys m) (ends keys key .low) (ends keys key .high) v l)
+  does-empty l = declines 9 (λ c. disconnected-empty eq law (keys .count) (m .slots) (stored keys m) (ends keys key .low) (ends keys key .high) v l)
 
   module _ (lt : ends keys key .low < ends keys key .high) where
-    pub does-connected : (i : ℕ) → i < vec-len (m .items) → (Rising (listed keys m) → Searched true (ends keys key .low) (ends keys key .high) (listed keys m) (Ok i)) → Does keys eq m call (declined 10) m
+    pub does-connected : (i : ℕ) → i < vec-len (m .items) → (Rising (stored keys m) → Searched true (ends keys key .low) (ends keys key .high) (stored keys m) (Ok i)) → Does keys eq m call (declined 10) m
     does-connected i l f =
-        declines 10 (λ c. disconnected-connected eq law (keys .count) (m .slots) (listed keys m) (ends keys key .low) (ends keys key .high) v lt
-        (meets-connected (keys .count) (ends keys key .low) (ends keys key .high) (listed keys m) (c .rises) lt i (omega (arith, len-listed keys m)) (f (keys .count, c .rises))))
+        declines 10 (λ c. disconnected-connected eq law (keys .count) (m .slots) (stored keys m) (ends keys key .low) (ends keys key .high) v lt
+        (meets-connected (keys .count) (ends keys key .low) (ends keys key .high) (stored keys m) (c .rises) lt i (omega (arith, len-listed keys m)) (f (keys .count, c .rises))))
 
-    module _ (i : ℕ) (within : i ≤ vec-len (m .items)) (found : Rising (listed keys m) → Stands 1 (ends keys key .low) (ends keys key .high) (listed keys m) i) where
+    module _ (i : ℕ) (within : i ≤ vec-len (m .items)) (found : Rising (stored keys m) → Stands 1 (ends keys key .low) (ends keys key .high) (stored keys m) i) where
       abbrev new : List (Span V)
-      new = inserted (listed keys m) i (span keys (record { key = key; value = v }))
+      new = inserted (stored keys m) i (spanAt keys (record { key = key; value = v }))
 
-      new-length : length new ≡ length (listed keys m) + 1
-      new-length = length-inserted (listed keys m) i _ (omega (arith, len-listed keys m))
+      new-length : length new ≡ length (stored keys m) + 1
+      new-length = length-inserted (stored keys m) i _ (omega (arith, len-listed keys m))
 
-      new-canonical : Canonical eq (keys .count) (listed keys m) → Canonical eq (keys .count) new
-      new-canonical c = canonical-put (span keys (record { key = key; value = v })) (keys .count) lt h eq (listed keys m) i (found (keys .count, c .rises)) c
+      new-canonical : Canonical eq (keys .count) (stored keys m) → Canonical eq (keys .count) new
+      new-canonical c = canonical-put (spanAt keys (record { key = key; value = v })) (keys .count) lt h eq (stored keys m) i (found (keys .count, c .rises)) c
 
-      new-held : Canonical eq (keys .count) (listed keys m) → Same-below eq (keys .count) (held new) (changed call (held (listed keys m)))
-      new-held c p k = same-eq eq law _ _ (held-stored (span keys (record { key = key; value = v })) (keys .count) lt h (listed keys m) i (found (keys .count, c .rises)) p)
+      new-held : Canonical eq (keys .count) (stored keys m) → Same-below eq (keys .count) (held new) (changed call (held (stored keys m)))
+      new-held c p k = same-eq eq law _ _ (held-stored (spanAt keys (record { key = key; value = v })) (keys .count) lt h (stored keys m) i (found (keys .count, c .rises)) p)
 
       pub does-full : m .slots ≤ vec-len (m .items) → Does keys eq m call (declined 11) m
       does-full n =
-          declines 11 (λ c. disconnected-offer eq law (keys .count) (m .slots) (listed keys m) (ends keys key .low) (ends keys key .high) v (declined 11) (listed keys m) lt
-          (meets-apart (keys .count) (ends keys key .low) (ends keys key .high) (listed keys m) (c .rises) lt i (found (keys .count, c .rises)))
-          (offer-full eq law (keys .count) (m .slots) (listed keys m) (changed call (held (listed keys m))) new (new-canonical c) (new-held c) (omega (arith, new-length, len-listed keys m))))
+          declines 11 (λ c. disconnected-offer eq law (keys .count) (m .slots) (stored keys m) (ends keys key .low) (ends keys key .high) v (declined 11) (stored keys m) lt
+          (meets-apart (keys .count) (ends keys key .low) (ends keys key .high) (stored keys m) (c .rises) lt i (found (keys .count, c .rises)))
+          (offer-full eq law (keys .count) (m .slots) (stored keys m) (changed call (held (stored keys m))) new (new-canonical c) (new-held c) (omega (arith, new-length, len-listed keys m))))
 
       pub does-store : (n : RangeMap K V) (k : ℕ) → n .slots ≡ m .slots → k ≡ vec-len (n .items) → vec-items (n .items) ≡ inserted (vec-items (m .items)) i (record { key = key; value = v }) →
           Does keys eq m call (ranges k) n
@@ -147,16 +147,16 @@ module _ {K V : Type 0} (keys : Ghosts K) (eq : V → V → Bool) (law : Equalit
           record {
             slots = b;
             link = λ c.
-                subst (λ (j : ℕ). Step eq (keys .count) (m .slots) (listed keys m) (record { call = call; answer = ranges j }) (listed keys n)) (sym (e ∙ len-listed keys n))
-                (subst (λ (ys : List (Span V)). length ys ≤ m .slots → Step eq (keys .count) (m .slots) (listed keys m) (record { call = call; answer = ranges (length ys) }) ys) (sym is)
-                (λ j. step-like eq law (keys .count) (m .slots) (listed keys m) call (ranges (length new)) new (new-canonical c)
-                (disconnected-offer eq law (keys .count) (m .slots) (listed keys m) (ends keys key .low) (ends keys key .high) v (ranges (length new)) new lt
-                (meets-apart (keys .count) (ends keys key .low) (ends keys key .high) (listed keys m) (c .rises) lt i (found (keys .count, c .rises)))
-                (offer-accepted eq law (keys .count) (m .slots) (listed keys m) (changed call (held (listed keys m))) new (new-canonical c) (new-held c) j)))
+                subst (λ (j : ℕ). Step eq (keys .count) (m .slots) (stored keys m) (record { call = call; answer = ranges j }) (stored keys n)) (sym (e ∙ len-listed keys n))
+                (subst (λ (ys : List (Span V)). length ys ≤ m .slots → Step eq (keys .count) (m .slots) (stored keys m) (record { call = call; answer = ranges (length ys) }) ys) (sym is)
+                (λ j. step-like eq law (keys .count) (m .slots) (stored keys m) call (ranges (length new)) new (new-canonical c)
+                (disconnected-offer eq law (keys .count) (m .slots) (stored keys m) (ends keys key .low) (ends keys key .high) v (ranges (length new)) new lt
+                (meets-apart (keys .count) (ends keys key .low) (ends keys key .high) (stored keys m) (c .rises) lt i (found (keys .count, c .rises)))
+                (offer-accepted eq law (keys .count) (m .slots) (stored keys m) (changed call (held (stored keys m))) new (new-canonical c) (new-held c) j)))
                 (omega (arith, len-listed keys n, n .few, b)));
           }
         where
-          is : listed keys n ≡ new
+          is : stored keys n ≡ new
           is =
-              ap (spans keys) f ∙ (map-append (span keys) (take i (vec-items (m .items))) _ ∙
-              ap₂ (λ (us ws : List (Span V)). us ++ span keys (record { key = key; value = v }) ∷ ws) (sym (take-map (span keys) i (vec-items (m .items)))) (sym (drop-map (span keys) i (vec-items (m .items)))))
+              ap (spans keys) f ∙ (map-append (spanAt keys) (take i (vec-items (m .items))) _ ∙
+              ap₂ (λ (us ws : List (Span V)). us ++ spanAt keys (record { key = key; value = v }) ∷ ws) (sym (take-map (spanAt keys) i (vec-items (m .items)))) (sym (drop-map (spanAt keys) i (vec-items (m .items)))))

@@ -17,7 +17,7 @@ use Rattle.std.proofs.shelf.Tests.{lt-ltb, le-ltb, cond-true, cond-false}
 use Rattle.ledger.specs.Spans.{Span}
 use Rattle.rangemap.specs.declared.item.Item.{Item}
 use Rattle.ranges.specs.declared.range.any.AnyRange.{AnyRange}
-use Rattle.rangemap.specs.Items.{span, spans}
+use Rattle.rangemap.specs.Items.{spanAt, spans}
 use Rattle.rangemap.specs.Cuts.{Left, Right, No-left, No-right, piece, cut-span, Gave}
 use Rattle.ranges.specs.Parts.{span as ends}
 use Rattle.lawful.specs.declared.key.Key.{Ghosts}
@@ -49,7 +49,7 @@ module _ {K : Type 0} (keys : Ghosts K) (x y : Ends) (full : Held y) where
 module _ {K V : Type 0} (keys : Ghosts K) (xs : List (Item K V)) (i : ℕ) (x : Item K V) (l : i < length xs) (e : x ≡ getD xs i x) (key : AnyRange K) where
   -- the parts of the span of x
   abbrev part : AnyRange K → Span V
-  part r = span keys (record { key = r; value = x .value })
+  part r = spanAt keys (record { key = r; value = x .value })
 
   left-there : (r : AnyRange K) (zs : List (Span V)) → Left (ends keys (x .key)) (ends keys key) (ends keys r) → piece (ends keys (x .key) .low) (min (ends keys (x .key) .high) (ends keys key .low)) (x .value) zs ≡ part r ∷ zs
   left-there r zs h =
@@ -63,15 +63,15 @@ module _ {K V : Type 0} (keys : Ghosts K) (xs : List (Item K V)) (i : ℕ) (x : 
   abbrev rest : List (Span V)
   rest = drop (i + 1) (spans keys xs)
 
-  gave : (ys zs : List (Span V)) → ys ≡ take i (spans keys xs) ++ zs → zs ≡ cut-span (ends keys key .low) (ends keys key .high) (span keys x) rest → Gave (ends keys key .low) (ends keys key .high) (spans keys xs) i ys
+  gave : (ys zs : List (Span V)) → ys ≡ take i (spans keys xs) ++ zs → zs ≡ cut-span (ends keys key .low) (ends keys key .high) (spanAt keys x) rest → Gave (ends keys key .low) (ends keys key .high) (spans keys xs) i ys
   gave ys zs f g =
-      record { is = λ d. f ∙ ap (λ ws. take i (spans keys xs) ++ ws) (g ∙ ap (λ (y : Span V). cut-span (ends keys key .low) (ends keys key .high) y rest) (ap (span keys) e ∙ sym (getD-map (span keys) xs i x d l))) }
+      record { is = λ d. f ∙ ap (λ ws. take i (spans keys xs) ++ ws) (g ∙ ap (λ (y : Span V). cut-span (ends keys key .low) (ends keys key .high) y rest) (ap (spanAt keys) e ∙ sym (getD-map (spanAt keys) xs i x d l))) }
 
   -- x gives way to one part
   set-spans : (r : AnyRange K) → spans keys (set xs i (record { key = r; value = x .value })) ≡ take i (spans keys xs) ++ part r ∷ rest
   set-spans r =
-      ap (spans keys) (set-split xs i _ l) ∙ (map-append (span keys) (take i xs) _ ∙
-      ap₂ (λ (us ws : List (Span V)). us ++ part r ∷ ws) (sym (take-map (span keys) i xs)) (sym (drop-map (span keys) (suc i) xs) ∙ ap (λ n. drop n (spans keys xs)) (sym (add-one i))))
+      ap (spans keys) (set-split xs i _ l) ∙ (map-append (spanAt keys) (take i xs) _ ∙
+      ap₂ (λ (us ws : List (Span V)). us ++ part r ∷ ws) (sym (take-map (spanAt keys) i xs)) (sym (drop-map (spanAt keys) (suc i) xs) ∙ ap (λ n. drop n (spans keys xs)) (sym (add-one i))))
 
   pub gave-before : (r : AnyRange K) → Left (ends keys (x .key)) (ends keys key) (ends keys r) → No-right (ends keys (x .key)) (ends keys key) → Gave (ends keys key .low) (ends keys key .high) (spans keys xs) i (spans keys (set xs i (record { key = r; value = x .value })))
   gave-before r h n = gave _ (part r ∷ rest) (set-spans r) (sym (left-there r _ h ∙ ap (λ ws. part r ∷ ws) (piece-not _ _ _ rest n)))
@@ -83,21 +83,21 @@ module _ {K V : Type 0} (keys : Ghosts K) (xs : List (Item K V)) (i : ℕ) (x : 
       Gave (ends keys key .low) (ends keys key .high) (spans keys xs) i (spans keys (inserted (set xs i (record { key = b; value = x .value })) i (record { key = a; value = x .value })))
   gave-split a b h k =
       gave _ (part a ∷ part b ∷ rest)
-      (map-append (span keys) (take i _) _ ∙
-      ap₂ (λ (us ws : List (Span V)). us ++ part a ∷ ws) (ap (spans keys) (take-set xs i _) ∙ sym (take-map (span keys) i xs)) (ap (spans keys) (drop-set xs i _ l) ∙ ap (λ (ws : List (Span V)). part b ∷ ws) (sym (drop-map (span keys) (i + 1) xs))))
+      (map-append (spanAt keys) (take i _) _ ∙
+      ap₂ (λ (us ws : List (Span V)). us ++ part a ∷ ws) (ap (spans keys) (take-set xs i _) ∙ sym (take-map (spanAt keys) i xs)) (ap (spans keys) (drop-set xs i _ l) ∙ ap (λ (ws : List (Span V)). part b ∷ ws) (sym (drop-map (spanAt keys) (i + 1) xs))))
       (sym (left-there a _ h ∙ ap (λ ws. part a ∷ ws) (right-there b rest k)))
 
   pub gave-empty : No-left (ends keys (x .key)) (ends keys key) → No-right (ends keys (x .key)) (ends keys key) → Gave (ends keys key .low) (ends keys key .high) (spans keys xs) i (spans keys (removed xs i))
   gave-empty h k =
       gave _ rest
-      (map-append (span keys) (take i xs) _ ∙
-      ap₂ (λ (us ws : List (Span V)). us ++ ws) (sym (take-map (span keys) i xs)) (sym (drop-map (span keys) (suc i) xs) ∙ ap (λ n. drop n (spans keys xs)) (sym (add-one i))))
+      (map-append (spanAt keys) (take i xs) _ ∙
+      ap₂ (λ (us ws : List (Span V)). us ++ ws) (sym (take-map (spanAt keys) i xs)) (sym (drop-map (spanAt keys) (suc i) xs) ∙ ap (λ n. drop n (spans keys xs)) (sym (add-one i))))
       (sym (piece-not _ _ _ _ h ∙ piece-not _ _ _ rest k))
 
   pub starts-before : (r : AnyRange K) → Left (ends keys (x .key)) (ends keys key) (ends keys r) → At (λ y. y .low < ends keys key .low) (spans keys xs) i
-  starts-before r h = at-span keys (λ y. y .low < ends keys key .low) xs i x l (subst (λ (y : Item K V). span keys y .low < ends keys key .low) e (omega (arith, h .low, h .high, h .full)))
+  starts-before r h = at-span keys (λ y. y .low < ends keys key .low) xs i x l (subst (λ (y : Item K V). spanAt keys y .low < ends keys key .low) e (omega (arith, h .low, h .high, h .full)))
 
   pub reaches-past : (a b : AnyRange K) → Left (ends keys (x .key)) (ends keys key) (ends keys a) → Right (ends keys (x .key)) (ends keys key) (ends keys b) → At (λ y. (y .low < ends keys key .low) × (ends keys key .high < y .high)) (spans keys xs) i
   reaches-past a b h k =
       at-span keys (λ y. (y .low < ends keys key .low) × (ends keys key .high < y .high)) xs i x l
-      (subst (λ (y : Item K V). (span keys y .low < ends keys key .low) × (ends keys key .high < span keys y .high)) e (omega (arith, h .low, h .high, h .full), omega (arith, k .low, k .high, k .full)))
+      (subst (λ (y : Item K V). (spanAt keys y .low < ends keys key .low) × (ends keys key .high < spanAt keys y .high)) e (omega (arith, h .low, h .high, h .full), omega (arith, k .low, k .high, k .full)))

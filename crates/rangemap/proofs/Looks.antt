@@ -27,8 +27,8 @@ use Rattle.std.specs.Of.Vec.{vec-items, vec-len}
 use Rattle.std.proofs.shelf.Lists.{length-map, drop-more}
 use Rattle.rangemap.specs.declared.item.Item.{Item}
 use Rattle.rangemap.specs.declared.map.RangeMap.{RangeMap}
-use Rattle.rangemap.specs.Items.{span, spans}
-use Rattle.rangemap.specs.Maps.{listed, Rises-in, Does}
+use Rattle.rangemap.specs.Items.{spanAt, spans}
+use Rattle.rangemap.specs.Maps.{stored, Rises-in, Does}
 use Rattle.rangemap.specs.Search.{Found, Last, Stands, Index}
 use Rattle.rangemap.proofs.Rising.{Parts, parts, span-read}
 use Rattle.lawful.specs.declared.key.Key.{Ghosts}
@@ -57,58 +57,58 @@ high-within keys within Unbounded = omega arith
 
 -- a call that only reads
 module _ {K V : Type 0} (keys : Ghosts K) (eq : V → V → Bool) (law : Equality eq) (m : RangeMap K V) where
-  pub does-get : (p : ℕ) (r : Option V) → (Rises-in keys m → r ≡ held (listed keys m) p) → Does keys eq m (get p) (found r) m
+  pub does-get : (p : ℕ) (r : Option V) → (Rises-in keys m → r ≡ held (stored keys m) p) → Does keys eq m (get p) (found r) m
   does-get p r e =
       record {
         slots = refl;
         link = λ k.
-            step-like eq law (keys .count) (m .slots) (listed keys m) (get p) (found r) (listed keys m) k
-            (get-found eq law (keys .count) (m .slots) (listed keys m) p r (same-eq eq law r (held (listed keys m) p) (e (k .rises))));
+            step-like eq law (keys .count) (m .slots) (stored keys m) (get p) (found r) (stored keys m) k
+            (get-found eq law (keys .count) (m .slots) (stored keys m) p r (same-eq eq law r (held (stored keys m) p) (e (k .rises))));
       }
 
-  pub does-intersects : (low high : ℕ) (b : Bool) → (Rises-in keys m → b ≡ meets (keys .count) (held (listed keys m)) (within low high)) → Does keys eq m (intersects low high) (said b) m
+  pub does-intersects : (low high : ℕ) (b : Bool) → (Rises-in keys m → b ≡ meets (keys .count) (held (stored keys m)) (within low high)) → Does keys eq m (intersects low high) (said b) m
   does-intersects low high b e =
       record {
         slots = refl;
         link = λ k.
-            step-like eq law (keys .count) (m .slots) (listed keys m) (intersects low high) (said b) (listed keys m) k
-            (intersects-said eq law (keys .count) (m .slots) (listed keys m) low high b (e (k .rises)));
+            step-like eq law (keys .count) (m .slots) (stored keys m) (intersects low high) (said b) (stored keys m) k
+            (intersects-said eq law (keys .count) (m .slots) (stored keys m) low high b (e (k .rises)));
       }
 
   pub does-list : Does keys eq m list nothing m
   does-list =
       record {
         slots = refl;
-        link = λ k. step-like eq law (keys .count) (m .slots) (listed keys m) list nothing (listed keys m) k (listed-nothing eq law (keys .count) (m .slots) (listed keys m));
+        link = λ k. step-like eq law (keys .count) (m .slots) (stored keys m) list nothing (stored keys m) k (listed-nothing eq law (keys .count) (m .slots) (stored keys m));
       }
 
 module _ {K V : Type 0} (keys : Ghosts K) (m : RangeMap K V) where
   -- the list is as long as the Vec, and has the spans of its items
-  pub len-listed : vec-len (m .items) ≡ length (listed keys m)
-  len-listed = m .items .ok .0 ∙ sym (length-map (vec-items (m .items)) (span keys))
+  pub len-listed : vec-len (m .items) ≡ length (stored keys m)
+  len-listed = m .items .ok .0 ∙ sym (length-map (vec-items (m .items)) (spanAt keys))
 
-  pub span-listed : (i : ℕ) (x : Item K V) → i < vec-len (m .items) → x ≡ getD (vec-items (m .items)) i x → getD (listed keys m) i (span keys x) ≡ span keys x
+  pub span-listed : (i : ℕ) (x : Item K V) → i < vec-len (m .items) → x ≡ getD (vec-items (m .items)) i x → getD (stored keys m) i (spanAt keys x) ≡ spanAt keys x
   span-listed i x l e = span-read keys (vec-items (m .items)) i x (omega (arith, m .items .ok .0)) e
 
-  pub get-ok : (p i : ℕ) (x : Item K V) → i < vec-len (m .items) → x ≡ getD (vec-items (m .items)) i x → (Rises-in keys m → Last 0 p (p + 1) (listed keys m) i) →
-      Rises-in keys m → Some (x .value) ≡ held (listed keys m) p
+  pub get-ok : (p i : ℕ) (x : Item K V) → i < vec-len (m .items) → x ≡ getD (vec-items (m .items)) i x → (Rises-in keys m → Last 0 p (p + 1) (stored keys m) i) →
+      Rises-in keys m → Some (x .value) ≡ held (stored keys m) p
   get-ok p i x l e f r =
-      let k : i < length (listed keys m) = omega (arith, len-listed) in
-      let j = f r .here (span keys x) in
-      sym (held-at 0 (keys .count) (listed keys m) i (span keys x) k r p (omega (arith, j .0)) (omega (arith, j .1)) ∙ ap (λ y. Some (y .value)) (span-listed i x l e))
+      let k : i < length (stored keys m) = omega (arith, len-listed) in
+      let j = f r .here (spanAt keys x) in
+      sym (held-at 0 (keys .count) (stored keys m) i (spanAt keys x) k r p (omega (arith, j .0)) (omega (arith, j .1)) ∙ ap (λ y. Some (y .value)) (span-listed i x l e))
 
-  pub get-err : (p i : ℕ) → (Rises-in keys m → Stands 0 p (p + 1) (listed keys m) i) → Rises-in keys m → None ≡ held (listed keys m) p
-  get-err p i f r = sym (held-stands 0 p (p + 1) (listed keys m) i (f r) p (omega arith) (omega arith))
+  pub get-err : (p i : ℕ) → (Rises-in keys m → Stands 0 p (p + 1) (stored keys m) i) → Rises-in keys m → None ≡ held (stored keys m) p
+  get-err p i f r = sym (held-stands 0 p (p + 1) (stored keys m) i (f r) p (omega arith) (omega arith))
 
-  pub index-listed : (r : Result ℕ ℕ) → Index (vec-len (m .items)) r → Index (length (listed keys m)) r
+  pub index-listed : (r : Result ℕ ℕ) → Index (vec-len (m .items)) r → Index (length (stored keys m)) r
   index-listed (Ok i) l = omega (arith, len-listed)
   index-listed (Err i) l = omega (arith, len-listed)
 
   module _ (i : ℕ) (x : Item K V) (l : i < vec-len (m .items)) (e : x ≡ getD (vec-items (m .items)) i x) where
-    pub drop-listed : drop i (listed keys m) ≡ span keys x ∷ drop (i + 1) (listed keys m)
-    drop-listed = drop-more (listed keys m) i (span keys x) (omega (arith, len-listed)) ∙ ap (λ y. y ∷ drop (i + 1) (listed keys m)) (span-listed i x l e)
+    pub drop-listed : drop i (stored keys m) ≡ spanAt keys x ∷ drop (i + 1) (stored keys m)
+    drop-listed = drop-more (stored keys m) i (spanAt keys x) (omega (arith, len-listed)) ∙ ap (λ y. y ∷ drop (i + 1) (stored keys m)) (span-listed i x l e)
 
-    pub parts-listed : Rises-in keys m → Parts 0 (keys .count) (span keys x) (take i (listed keys m)) (drop (i + 1) (listed keys m))
+    pub parts-listed : Rises-in keys m → Parts 0 (keys .count) (spanAt keys x) (take i (stored keys m)) (drop (i + 1) (stored keys m))
     parts-listed r =
-        subst (λ (y : Span V). Parts 0 (keys .count) y (take i (listed keys m)) (drop (i + 1) (listed keys m))) (span-listed i x l e)
-        (parts 0 (keys .count) (listed keys m) i (span keys x) (omega (arith, len-listed)) r)
+        subst (λ (y : Span V). Parts 0 (keys .count) y (take i (stored keys m)) (drop (i + 1) (stored keys m))) (span-listed i x l e)
+        (parts 0 (keys .count) (stored keys m) i (spanAt keys x) (omega (arith, len-listed)) r)

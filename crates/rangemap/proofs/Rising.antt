@@ -14,18 +14,18 @@ use Rattle.std.proofs.shelf.Elements.{all-more}
 use Rattle.ledger.proofs.Lists.{rises-from}
 use Rattle.ledger.specs.Spans.{Span, Rises}
 use Rattle.rangemap.specs.declared.item.Item.{Item}
-use Rattle.rangemap.specs.Items.{span, spans}
+use Rattle.rangemap.specs.Items.{spanAt, spans}
 use Rattle.ranges.specs.Parts.{span as ends}
 use Rattle.lawful.specs.declared.key.Key.{Ghosts}
 use Rattle.rangemap.specs.Search.{Rising, Bracket, Joins, Last, Stands}
 
 -- what holds of the item at an index holds of its span
-pub at-span : {K V : Type 0} (keys : Ghosts K) (P : Span V → Type 0) (xs : List (Item K V)) (i : ℕ) (d : Item K V) → i < length xs → P (span keys (getD xs i d)) → At P (spans keys xs) i
-at-span keys P xs i d l p e = subst P (sym (getD-map (span keys) xs i d e l)) p
+pub at-span : {K V : Type 0} (keys : Ghosts K) (P : Span V → Type 0) (xs : List (Item K V)) (i : ℕ) (d : Item K V) → i < length xs → P (spanAt keys (getD xs i d)) → At P (spans keys xs) i
+at-span keys P xs i d l p e = subst P (sym (getD-map (spanAt keys) xs i d e l)) p
 
 -- the span of an item that was read
-pub span-read : {K V : Type 0} (keys : Ghosts K) (xs : List (Item K V)) (i : ℕ) (x : Item K V) → i < length xs → x ≡ getD xs i x → getD (spans keys xs) i (span keys x) ≡ span keys x
-span-read keys xs i x l e = getD-map (span keys) xs i x (span keys x) l ∙ ap (span keys) (sym e)
+pub span-read : {K V : Type 0} (keys : Ghosts K) (xs : List (Item K V)) (i : ℕ) (x : Item K V) → i < length xs → x ≡ getD xs i x → getD (spans keys xs) i (spanAt keys x) ≡ spanAt keys x
+span-read keys xs i x l e = getD-map (spanAt keys) xs i x (spanAt keys x) l ∙ ap (spanAt keys) (sym e)
 
 -- two facts of each element make a third
 pub all-both : {X : Type 0} (P Q R : X → Type 0) → ((x : X) → P x → Q x → R x) → (xs : List X) → All P xs → All Q xs → All R xs
@@ -87,7 +87,7 @@ module _ {V : Type 0} where
 
 -- an item of a rising list holds a place
 pub full-at : {K V : Type 0} (keys : Ghosts K) (xs : List (Item K V)) (i : ℕ) (d : Item K V) → i < length xs → Rising (spans keys xs) → ends keys (getD xs i d .key) .low < ends keys (getD xs i d .key) .high
-full-at keys xs i d l (count, r) = subst (λ y. y .low < y .high) (getD-map (span keys) xs i d (span keys d) l) (parts 0 count (spans keys xs) i (span keys d) (rw length-map l) r .here)
+full-at keys xs i d l (count, r) = subst (λ y. y .low < y .high) (getD-map (spanAt keys) xs i d (spanAt keys d) l) (parts 0 count (spans keys xs) i (spanAt keys d) (rw length-map l) r .here)
 
 module _ {K V : Type 0} (keys : Ghosts K) (b : ℕ) (xs : List (Item K V)) where
   -- a search between the two indices
@@ -100,7 +100,7 @@ module _ {K V : Type 0} (keys : Ghosts K) (b : ℕ) (xs : List (Item K V)) where
 
   pub bracket-all : (d : Item K V) → 0 < length xs → ends keys (getD xs 0 d .key) .low < b → Bracket b (spans keys xs) 0 (length xs)
   bracket-all d l lt =
-      record { here = at-span keys (λ y. y .low < b) xs 0 d l lt; later = λ r. rw (drop-all (length xs) (spans keys xs) (omega (arith, length-map xs (span keys)))) tt }
+      record { here = at-span keys (λ y. y .low < b) xs 0 d l lt; later = λ r. rw (drop-all (length xs) (spans keys xs) (omega (arith, length-map xs (spanAt keys)))) tt }
 
   -- in a rising list whose first span starts at b or later, each does
   pub all-first : (d : Item K V) → 0 < length xs → b ≤ ends keys (getD xs 0 d .key) .low → Rising (spans keys xs) → All (λ y. b ≤ y .low) (spans keys xs)
@@ -110,11 +110,11 @@ module _ {K V : Type 0} (keys : Ghosts K) (b : ℕ) (xs : List (Item K V)) where
   all-none e r = rw (nil-from-length xs e) tt
 
   -- what the search answers from the last span that starts before the end of the range
-  pub last-found : (t low high i : ℕ) (d : Item K V) → b ≡ high + t → i < length xs → Bracket b (spans keys xs) i (i + 1) → Joins t low high (span keys (getD xs i d)) → Rising (spans keys xs) →
+  pub last-found : (t low high i : ℕ) (d : Item K V) → b ≡ high + t → i < length xs → Bracket b (spans keys xs) i (i + 1) → Joins t low high (spanAt keys (getD xs i d)) → Rising (spans keys xs) →
       Last t low high (spans keys xs) i
   last-found t low high i d e l h j r = record { here = at-span keys (Joins t low high) xs i d l j; later = subst (λ n. All (λ x. n ≤ x .low) (drop (i + 1) (spans keys xs))) e (h .later r) }
 
-  pub stands-found : (t low high i : ℕ) (d : Item K V) → b ≡ high + t → i < length xs → Bracket b (spans keys xs) i (i + 1) → (Joins t low high (span keys (getD xs i d)) → ⊥) → Rising (spans keys xs) →
+  pub stands-found : (t low high i : ℕ) (d : Item K V) → b ≡ high + t → i < length xs → Bracket b (spans keys xs) i (i + 1) → (Joins t low high (spanAt keys (getD xs i d)) → ⊥) → Rising (spans keys xs) →
       Stands t low high (spans keys xs) (i + 1)
   stands-found t low high i d e l h j r =
       record {
@@ -123,5 +123,5 @@ module _ {K V : Type 0} (keys : Ghosts K) (b : ℕ) (xs : List (Item K V)) where
       }
     where
       go : (low < ends keys (getD xs i d .key) .high + t) ⊎ (ends keys (getD xs i d .key) .high + t ≤ low) → ends keys (getD xs i d .key) .high + t ≤ low
-      go (inl k) = absurd (j (subst (λ y. y .low < high + t) (getD-map (span keys) xs i d (span keys d) l) (rw e at (h .here (span keys d))), k))
+      go (inl k) = absurd (j (subst (λ y. y .low < high + t) (getD-map (spanAt keys) xs i d (spanAt keys d) l) (rw e at (h .here (spanAt keys d))), k))
       go (inr k) = k

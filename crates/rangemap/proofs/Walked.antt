@@ -12,7 +12,7 @@ use Rattle.std.proofs.shelf.Elements.{all-getD, all-drop, all-take, all-weaker}
 use Rattle.std.proofs.shelf.Tests.{cases-lt}
 use Rattle.ledger.specs.Spans.{Span, Rises}
 use Rattle.rangemap.specs.declared.item.Item.{Item}
-use Rattle.rangemap.specs.Items.{span, spans}
+use Rattle.rangemap.specs.Items.{spanAt, spans}
 use Rattle.rangemap.specs.Search.{Rising, Last, Joins}
 use Rattle.rangemap.specs.Cuts.{piece, cut, cut-span, Cutting, Gave, Walked}
 use Rattle.rangemap.proofs.Rising.{parts, all-full, all-earlier, ends-earlier, span-read}
@@ -83,7 +83,7 @@ module _ {K V : Type 0} (keys : Ghosts K) (low high : ℕ) (lt : low < high) (ol
 
   module _ (xs : List (Item K V)) (addr : ℕ) (w : Walked keys low high old xs from addr) (d : Span V) where
     inside : addr < length (spans keys old)
-    inside = omega (arith, length-map old (span keys), w .back)
+    inside = omega (arith, length-map old (spanAt keys), w .back)
 
     is : Rising (spans keys old) → getD (spans keys xs) addr d ≡ getD (spans keys old) addr d
     is r = stood low high (spans keys old) (spans keys xs) addr d inside (w .cutting r)
@@ -123,7 +123,7 @@ module _ {K V : Type 0} (keys : Ghosts K) (low high : ℕ) (lt : low < high) (ol
 
         go : (addr < from) ⊎ (from ≤ addr) → getD (spans keys old) addr d .low < high
         go (inl k) =
-            let o = rises-order count (spans keys old) addr from d k (omega (arith, length-map old (span keys))) r in
+            let o = rises-order count (spans keys old) addr from d k (omega (arith, length-map old (spanAt keys))) r in
             let p = parts 0 count (spans keys old) addr d inside r in
             omega (arith, p .here, h)
         go (inr k) = let e : from ≡ addr = omega (arith, w .back) in subst (λ n. getD (spans keys old) n d .low < high) e h
@@ -144,15 +144,15 @@ module _ {K V : Type 0} (keys : Ghosts K) (low high : ℕ) (lt : low < high) (ol
             (all-weaker (λ x. x .high + 0 ≤ low) (λ x. x .high ≤ low) (λ x e. omega arith) (take (addr + 1) (spans keys old)) b) (w .cutting r)
 
     -- the same of the item that was read
-    pub walked-miss-read : (x : Item K V) → d ≡ span keys x → addr < length xs → x ≡ getD xs addr x → (span keys x .low < span keys x .high → Joins 0 low high (span keys x) → ⊥) → Rising (spans keys old) → spans keys xs ≡ cut low high (spans keys old)
+    pub walked-miss-read : (x : Item K V) → d ≡ spanAt keys x → addr < length xs → x ≡ getD xs addr x → (spanAt keys x .low < spanAt keys x .high → Joins 0 low high (spanAt keys x) → ⊥) → Rising (spans keys old) → spans keys xs ≡ cut low high (spans keys old)
     walked-miss-read x f l e z =
-        let h : getD (spans keys xs) addr d ≡ span keys x = ap (getD (spans keys xs) addr) f ∙ span-read keys xs addr x l e in
+        let h : getD (spans keys xs) addr d ≡ spanAt keys x = ap (getD (spans keys xs) addr) f ∙ span-read keys xs addr x l e in
         walked-miss (λ n j. z (subst (λ (y : Span V). y .low < y .high) h n) (subst (Joins 0 low high) h j))
 
     -- it has a part on both sides of the key, so that it is the found one, and nothing was changed yet
     pub walked-full : (slots : ℕ) → At (λ x. (x .low < low) × (high < x .high)) (spans keys xs) addr → slots ≤ length xs → Rising (spans keys old) →
         (xs ≡ old) × (slots < length (cut low high (spans keys old)))
-    walked-full slots a n (count, r) = (w .same same, omega (arith, size, length-map old (span keys), ap length (w .same same)))
+    walked-full slots a n (count, r) = (w .same same, omega (arith, size, length-map old (spanAt keys), ap length (w .same same)))
       where
         low-is : getD (spans keys old) addr d .low < low
         low-is = omega (arith, a d .0, ap (λ x. x .low) (is (count, r)))
@@ -165,7 +165,7 @@ module _ {K V : Type 0} (keys : Ghosts K) (low high : ℕ) (lt : low < high) (ol
           where
             go : (addr < from) ⊎ (from ≤ addr) → addr ≡ from
             go (inl k) =
-                let o = rises-order count (spans keys old) addr from d k (omega (arith, length-map old (span keys))) r in
+                let o = rises-order count (spans keys old) addr from d k (omega (arith, length-map old (spanAt keys))) r in
                 let z : ⊥ = omega (arith, high-is, found (count, r) .here d .0) in absurd z
             go (inr k) = omega (arith, w .back)
 

@@ -16,8 +16,8 @@ use Rattle.ledger.proofs.Lists.{rises-from}
 use Rattle.ledger.specs.Spans.{Span, Gap, Rises}
 use Rattle.rangemap.specs.declared.item.Item.{Item}
 use Rattle.rangemap.specs.declared.map.RangeMap.{RangeMap}
-use Rattle.rangemap.specs.Items.{span, spans}
-use Rattle.rangemap.specs.Maps.{listed, Rises-in, Ready}
+use Rattle.rangemap.specs.Items.{spanAt, spans}
+use Rattle.rangemap.specs.Maps.{stored, Rises-in, Ready}
 use Rattle.rangemap.specs.Search.{Last, Stands, Splits}
 use Rattle.rangemap.specs.Walks.{past, end, Moved, Stays}
 use Rattle.rangemap.proofs.Rising.{parts, ends-earlier, ends-later, all-full, all-both}
@@ -113,7 +113,7 @@ module _ {V : Type 0} (count p : ℕ) (xs : List (Span V)) (r : Rises 0 count xs
             (all-drop (λ x. x .low < x .high) i xs (all-full 0 count xs r)) (s .later);
       }
 
-module _ {K V : Type 0} (keys : Ghosts K) (m : RangeMap K V) (p l i : ℕ) (s : Rises-in keys m → Splits p (listed keys m) i) where
+module _ {K V : Type 0} (keys : Ghosts K) (m : RangeMap K V) (p l i : ℕ) (s : Rises-in keys m → Splits p (stored keys m) i) where
   -- nothing is left past the place
   pub ranges-end : vec-len (m .items) ≤ i → Stays (end keys) (Ready keys m) (vec-items (m .items)) p l p l
   ranges-end n =

@@ -2,7 +2,6 @@
 ghost use mathlib.Core.Path.{_≡_};
 ghost use mathlib.Core.Bool.{true, false};
 ghost use Prim.Native.Nat.{_+_, _<_, _≤_};
-ghost use Rattle.std.specs.Holes.{inserted};
 ghost use Rattle.std.specs.Of.Vec.{vec-items, vec-len, vec-cap};
 ghost use Rattle.ranges.specs.Parts.{span as ends};
 ghost use Rattle.rangemap.specs.Cuts.{Taken, Turned};
@@ -10,24 +9,11 @@ ghost use Rattle.rangemap.specs.Items.{spans};
 ghost use Rattle.rangemap.specs.Search.{Last, Rising};
 use super::item::Item;
 use super::search::matches;
+use super::slots::insert_at;
 use lawful::Key;
 use lawful::Value;
 use ranges::AnyRange;
 use ranges::Difference;
-
-// Puts an item before the one at addr, in memory that was set aside.
-pub fn insert_at<K: Key, V: Value>(items: &mut Vec<Item<K, V>>, addr: usize, item: Item<K, V>)
-    requires within { ⌜ addr ≤ vec-len (now items) ⌝ }
-    requires roomy { ⌜ vec-len (now items) < vec-cap (now items) ⌝ }
-    ensures items { λ _. ⌜ vec-items (now (items .exit)) ≡ inserted (vec-items (now (items .entry))) addr item ⌝ }
-    ensures len { λ _. ⌜ vec-len (now (items .exit)) ≡ vec-len (now (items .entry)) + 1 ⌝ }
-    ensures capacity { λ _. ⌜ vec-cap (now (items .exit)) ≡ vec-cap (now (items .entry)) ⌝ }
-{
-    match items.insert(addr, item) {
-        Ok(()) => {}
-        Err(_) => unreachable(),
-    }
-}
 
 // What one turn came to.
 #[derive(Clone, Copy)]

@@ -6,7 +6,7 @@ ghost use Rattle.std.specs.Of.Vec.{vec-len};
 ghost use Rattle.ranges.specs.Ranges.{Held};
 ghost use Rattle.ranges.specs.Parts.{span as ends};
 ghost use Rattle.rangemap.specs.Search.{Index, Rising, Searched};
-ghost use Rattle.rangemap.specs.Maps.{Does, Rises-in, listed};
+ghost use Rattle.rangemap.specs.Maps.{Does, Rises-in, stored};
 use super::super::item::Item;
 use super::super::search::address;
 use super::RangeMap;
@@ -20,14 +20,14 @@ impl<K: Key, V: Value> RangeMap<K, V> {
     pub(super) fn address_of(&self, key: AnyRange<K>, connected: bool) -> Result<usize, usize>
         requires { ⌜ Held (ends K·Key key) ⌝ }
         ensures within { λ r. ⌜ Index (vec-len (now (self .entry) .items)) r ⌝ }
-        ensures found { λ r. ⌜ (Rising (listed K·Key (now (self .entry))) → Searched connected (ends K·Key key .low) (ends K·Key key .high) (listed K·Key (now (self .entry))) r) ⌝ }
+        ensures found { λ r. ⌜ (Rising (stored K·Key (now (self .entry))) → Searched connected (ends K·Key key .low) (ends K·Key key .high) (stored K·Key (now (self .entry))) r) ⌝ }
     {
         address(&self.items, key, connected)
     }
 
     // The value at a key, or none.
     pub fn get(&self, key: K) -> Option<V>
-        ensures value { λ r. ⌜ (Rises-in K·Key (now (self .entry)) → r ≡ held (listed K·Key (now (self .entry))) (K·Key .place key)) ⌝ }
+        ensures value { λ r. ⌜ (Rises-in K·Key (now (self .entry)) → r ≡ held (stored K·Key (now (self .entry))) (K·Key .place key)) ⌝ }
         ensures does { λ r. ⌜ Does K·Key (V·Value .equals) (now (self .entry)) (getting (K·Key .place key)) (found r) (now (self .entry)) ⌝ }
     {
         let one = AnyRange {

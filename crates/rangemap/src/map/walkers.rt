@@ -9,7 +9,7 @@ ghost use Rattle.std.specs.Vec.{made};
 ghost use Rattle.ledger.specs.Ledger.{list, nothing};
 ghost use Rattle.ledger.specs.Spans.{gaps as gapsOf};
 ghost use Rattle.ranges.specs.Places.{low};
-ghost use Rattle.rangemap.specs.Maps.{Does, Ready, Rises-in, listed};
+ghost use Rattle.rangemap.specs.Maps.{Does, Ready, Rises-in, stored};
 ghost use Rattle.rangemap.specs.Search.{Splits};
 ghost use Rattle.rangemap.specs.Walks.{First, Walks, end, endOf, gapEnd, gapOf, past};
 use super::super::ends::end_before;
@@ -47,7 +47,7 @@ impl<K: Key, V: Value> RangeMap<K, V> {
     // The index of the first stored range that ends past the place.
     fn first_past(&self, place: u64) -> usize
         ensures within { λ r. ⌜ r ≤ vec-len (now (self .entry) .items) ⌝ }
-        ensures splits { λ r. ⌜ (Rises-in K·Key (now (self .entry)) → Splits place (listed K·Key (now (self .entry))) r) ⌝ }
+        ensures splits { λ r. ⌜ (Rises-in K·Key (now (self .entry)) → Splits place (stored K·Key (now (self .entry))) r) ⌝ }
     {
         let Some(key) = K::at(place) else {
             return self.items.len();
@@ -130,7 +130,7 @@ impl<K: Key, V: Value> RangeMap<K, V> {
     // The start right behind the stored range before the index.
     fn start_at(&self, i: usize) -> Bound<K>
         requires { ⌜ i ≤ vec-len (now self .items) ⌝ }
-        ensures { λ r. ⌜ low K·Key r ≡ endOf 0 (take i (listed K·Key (now (self .entry)))) ⌝ }
+        ensures { λ r. ⌜ low K·Key r ≡ endOf 0 (take i (stored K·Key (now (self .entry)))) ⌝ }
     {
         if i == 0 {
             Bound::Unbounded
@@ -141,7 +141,7 @@ impl<K: Key, V: Value> RangeMap<K, V> {
 
     // The first gap that ends past the place.
     fn gap_past(&self, place: u64) -> Option<AnyRange<K>>
-        ensures { λ r. ⌜ (Rises-in K·Key (now (self .entry)) → First (past gapEnd place (gapsOf (K·Key .count) (listed K·Key (now (self .entry))))) (mapped (gapOf K·Key) r)) ⌝ }
+        ensures { λ r. ⌜ (Rises-in K·Key (now (self .entry)) → First (past gapEnd place (gapsOf (K·Key .count) (stored K·Key (now (self .entry))))) (mapped (gapOf K·Key) r)) ⌝ }
     {
         let first = self.first_past(place);
         let mut start = self.start_at(first);
@@ -169,7 +169,7 @@ impl<K: Key, V: Value> RangeMap<K, V> {
 impl Gaps {
     // The first gap that ends past the walker's place, which moves to its end.
     pub fn next<K: Key, V: Value>(&mut self, map: &RangeMap<K, V>) -> Option<AnyRange<K>>
-        ensures { λ r. ⌜ Walks gapEnd (Ready K·Key (now (map .entry))) (gapsOf (K·Key .count) (listed K·Key (now (map .entry)))) (now (self .entry) .place) (now (self .entry) .left) (mapped (gapOf K·Key) r) (now (self .exit) .place) (now (self .exit) .left) ⌝ }
+        ensures { λ r. ⌜ Walks gapEnd (Ready K·Key (now (map .entry))) (gapsOf (K·Key .count) (stored K·Key (now (map .entry)))) (now (self .entry) .place) (now (self .entry) .left) (mapped (gapOf K·Key) r) (now (self .exit) .place) (now (self .exit) .left) ⌝ }
     {
         let Some(gap) = map.gap_past(self.place) else {
             return None;
@@ -188,7 +188,7 @@ pub fn all_gaps<K: Key, V: Value>(
     heap: Global,
     map: &RangeMap<K, V>,
 ) -> Result<Vec<AnyRange<K>>, AllocError>
-    ensures { λ r. ⌜ made r (λ v. Rises-in K·Key (now (map .entry)) → each (gapOf K·Key) (vec-items v) ≡ gapsOf (K·Key .count) (listed K·Key (now (map .entry)))) ⌝ }
+    ensures { λ r. ⌜ made r (λ v. Rises-in K·Key (now (map .entry)) → each (gapOf K·Key) (vec-items v) ≡ gapsOf (K·Key .count) (stored K·Key (now (map .entry)))) ⌝ }
 {
     let mut out = Vec::with_capacity(heap, map.items.len())?;
     let mut walker = map.gaps();

@@ -4,7 +4,7 @@ use native.Mathlib.Omega.{arith}
 use lib.ListN.{length}
 use Rattle.std.specs.Of.Vec.{vec-items}
 use Rattle.std.proofs.shelf.Tests.{false≢true}
-use Rattle.rangemap.specs.Items.{span}
+use Rattle.rangemap.specs.Items.{spanAt}
 use Rattle.rangemap.proofs.Walked.{walked-first, walked-on, walked-start, walked-done, walked-miss-read, walked-full}
 use Rattle.ranges.specs.Parts.{span as ends}
 use Rattle.rangemap.proofs.cuts.cut_back.Needs as need
@@ -24,7 +24,7 @@ back-again g c =
       h .few,
       h .capacity ∙ c .back .inv .2,
       walked-on (g .K·Key) (ends (g .K·Key) (c .args .key) .low) (ends (g .K·Key) (c .args .key) .high) (c .pre .full) (vec-items v) (c .args .from) l (c .pre .found) (vec-items (c .back .items)) (c .back .addr) (c .back .inv .3)
-          (span (g .K·Key) (c .index .result .now)) (vec-items (c .cut-item .last .items)) (c .if-addr-eq0 .left) (h .turned),
+          (spanAt (g .K·Key) (c .index .result .now)) (vec-items (c .cut-item .last .items)) (c .if-addr-eq0 .left) (h .turned),
     )
 
 pub returns-then-addr-eq0 : need.returns-then-addr-eq0
@@ -35,7 +35,7 @@ returns-then-addr-eq0 g c =
     record {
       taken =
           walked-start (g .K·Key) (ends (g .K·Key) (c .args .key) .low) (ends (g .K·Key) (c .args .key) .high) (c .pre .full) (vec-items v) (c .args .from) l (c .pre .found) (vec-items (c .back .items)) (c .back .addr) (c .back .inv .3)
-          (span (g .K·Key) (c .index .result .now)) (vec-items (c .cut-item .last .items)) (c .if-addr-eq0 .taken) (h .turned);
+          (spanAt (g .K·Key) (c .index .result .now)) (vec-items (c .cut-item .last .items)) (c .if-addr-eq0 .taken) (h .turned);
       few = h .few;
       capacity = h .capacity ∙ c .back .inv .2;
     }
@@ -48,7 +48,7 @@ returns-then-not-matches g c =
     record {
       taken =
           walked-miss-read (g .K·Key) (ends (g .K·Key) (c .args .key) .low) (ends (g .K·Key) (c .args .key) .high) (c .pre .full) (vec-items v) (c .args .from) l (c .pre .found) (vec-items (c .back .items)) (c .back .addr) (c .back .inv .3)
-          (span (g .K·Key) (c .index .result .now)) (c .index .result .now) refl k (c .index .ensures)
+          (spanAt (g .K·Key) (c .index .result .now)) (c .index .result .now) refl k (c .index .ensures)
           (λ n j. false≢true (c .if-not-matches .ensures tt n (c .pre .full) .1 (record { starts = j .1; ends = j .0 })));
       few = c .back .inv .1;
       capacity = c .back .inv .2;
@@ -62,7 +62,7 @@ returns-in-Done g c =
     record {
       taken =
           walked-done (g .K·Key) (ends (g .K·Key) (c .args .key) .low) (ends (g .K·Key) (c .args .key) .high) (c .pre .full) (vec-items v) (c .args .from) l (c .pre .found) (vec-items (c .back .items)) (c .back .addr) (c .back .inv .3)
-          (span (g .K·Key) (c .index .result .now)) (vec-items (c .cut-item .last .items)) (h .turned .0) (h .turned .1);
+          (spanAt (g .K·Key) (c .index .result .now)) (vec-items (c .cut-item .last .items)) (h .turned .0) (h .turned .1);
       few = h .few;
       capacity = h .capacity ∙ c .back .inv .2;
     }
@@ -76,7 +76,7 @@ returns-in-Full g c =
       taken = λ r.
           let t =
           walked-full (g .K·Key) (ends (g .K·Key) (c .args .key) .low) (ends (g .K·Key) (c .args .key) .high) (c .pre .full) (vec-items v) (c .args .from) l (c .pre .found) (vec-items (c .back .items)) (c .back .addr) (c .back .inv .3)
-          (span (g .K·Key) (c .index .result .now)) (c .args .slots) (h .turned .2) (h .turned .1) r in
+          (spanAt (g .K·Key) (c .index .result .now)) (c .args .slots) (h .turned .2) (h .turned .1) r in
           (h .turned .0 ∙ t .0, t .1);
       few = h .few;
       capacity = h .capacity ∙ c .back .inv .2;

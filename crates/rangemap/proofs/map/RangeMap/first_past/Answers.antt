@@ -1,7 +1,7 @@
 use Prim.Native.Nat.{ℕ, _+_}
 use mathlib.Core.Path.{_≡_, subst}
 use native.Mathlib.Omega.{arith}
-use Rattle.rangemap.specs.Maps.{listed}
+use Rattle.rangemap.specs.Maps.{stored}
 use Rattle.rangemap.specs.Search.{Splits}
 use Rattle.rangemap.proofs.Looks.{len-listed}
 use Rattle.rangemap.proofs.Walking.{splits-count, splits-last, splits-stands}
@@ -12,7 +12,7 @@ returns-in-rest g c =
     let m = c .args .self .now in
     record {
       within = omega arith;
-      splits = λ r. splits-count (g .K·Key .count) (c .args .place) (listed (g .K·Key) m) r (c .len .result) (c .in-rest .ensures tt) (omega (arith, len-listed (g .K·Key) m));
+      splits = λ r. splits-count (g .K·Key .count) (c .args .place) (stored (g .K·Key) m) r (c .len .result) (c .in-rest .ensures tt) (omega (arith, len-listed (g .K·Key) m));
     }
 
 pub returns-in-Ok : need.returns-in-Ok
@@ -23,8 +23,8 @@ returns-in-Ok g c =
     let e : p ≡ c .args .place = c .in-Some .ensures tt in
     record {
       within = omega (arith, f .within);
-      splits = λ r. subst (λ (q : ℕ). Splits q (listed (g .K·Key) m) (c .in-Ok .addr)) e
-          (splits-last (g .K·Key .count) p (listed (g .K·Key) m) r (c .in-Ok .addr) (omega (arith, f .within, len-listed (g .K·Key) m)) (f .found (g .K·Key .count, r)));
+      splits = λ r. subst (λ (q : ℕ). Splits q (stored (g .K·Key) m) (c .in-Ok .addr)) e
+          (splits-last (g .K·Key .count) p (stored (g .K·Key) m) r (c .in-Ok .addr) (omega (arith, f .within, len-listed (g .K·Key) m)) (f .found (g .K·Key .count, r)));
     }
 
 pub returns-in-Err : need.returns-in-Err
@@ -35,6 +35,6 @@ returns-in-Err g c =
     let e : p ≡ c .args .place = c .in-Some .ensures tt in
     record {
       within = f .within;
-      splits = λ r. subst (λ (q : ℕ). Splits q (listed (g .K·Key) m) (c .in-Err .addr)) e
-          (splits-stands (g .K·Key .count) p (listed (g .K·Key) m) r (c .in-Err .addr) (f .found (g .K·Key .count, r)));
+      splits = λ r. subst (λ (q : ℕ). Splits q (stored (g .K·Key) m) (c .in-Err .addr)) e
+          (splits-stands (g .K·Key .count) p (stored (g .K·Key) m) r (c .in-Err .addr) (f .found (g .K·Key .count, r)));
     }

@@ -2,7 +2,7 @@ use mathlib.Core.Path.{refl, sym, ap}
 use native.Mathlib.Omega.{arith}
 use Rattle.std.proofs.shelf.Tests.{leb-true, leb-false}
 use Rattle.rangemap.specs.Items.{spans}
-use Rattle.rangemap.specs.Maps.{listed}
+use Rattle.rangemap.specs.Maps.{stored}
 use Rattle.rangemap.proofs.Helds.{held-stands}
 use Rattle.rangemap.proofs.Edits.{does-remove, does-remove-none, does-remove-full}
 use Rattle.ranges.specs.Parts.{span as ends}
@@ -20,7 +20,7 @@ returns-in-rest g c =
     let m = c .args .self .now in
     let key = ends (g .K·Key) (c .args .key) in
     does-remove-none (g .K·Key) (g .V·Value .equals) (g .V·Value·met .lawful) m (key .low) (key .high) (c .len-in-rest .result) (c .len-in-rest .ensures)
-    (λ r p a b. held-stands 0 (key .low) (key .high) (listed (g .K·Key) m) (c .in-rest .field-0) (c .in-rest .ensures tt .found (g .K·Key .count, r)) p (omega arith) (omega arith))
+    (λ r p a b. held-stands 0 (key .low) (key .high) (stored (g .K·Key) m) (c .in-rest .field-0) (c .in-rest .ensures tt .found (g .K·Key .count, r)) p (omega arith) (omega arith))
 
 pub returns-then-cut-back : need.returns-then-cut-back
 returns-then-cut-back g c =
