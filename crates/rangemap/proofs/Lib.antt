@@ -3,6 +3,7 @@ pub mod Bundles
 pub mod Changes
 pub mod Does
 pub mod Edits
+pub mod Empties
 pub mod Finds
 pub mod Gapping
 pub mod Gives

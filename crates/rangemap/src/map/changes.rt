@@ -5,12 +5,12 @@ ghost use Rattle.std.specs.Of.Vec.{vec-items, vec-len, vec-cap};
 ghost use Rattle.ledger.specs.Ledger.{insert as inserting, insert-disconnected as storing, remove as removing};
 ghost use Rattle.ranges.specs.Parts.{span as ends};
 ghost use Rattle.rangemap.specs.Declines.{answer, answerOr};
-ghost use Rattle.rangemap.specs.Maps.{Does, Keeps, Placed, Settled};
+ghost use Rattle.rangemap.specs.Maps.{Does, Keeps, Placed, Rises-in, Settled};
 ghost use Rattle.rangemap.specs.Ranges.{lo, hi};
+use super::super::address::insert_at;
 use super::super::cuts::cut_back;
 use super::super::decline::Decline;
 use super::super::item::Item;
-use super::super::slots::insert_at;
 use super::super::walk::insert;
 use super::RangeMap;
 use lawful::Key;
@@ -60,7 +60,8 @@ impl<K: Key, V: Value> RangeMap<K, V> {
 
     // Takes the places of the key out of the map, and answers the number of ranges then stored.
     pub fn remove(&mut self, key: AnyRange<K>) -> Result<usize, Decline>
-        ensures { λ r. ⌜ Does K·Key (V·Value .equals) (now (self .entry)) (removing (ends K·Key key .low) (ends K·Key key .high)) (answer r) (now (self .exit)) ⌝ }
+        ensures does { λ r. ⌜ Does K·Key (V·Value .equals) (now (self .entry)) (removing (ends K·Key key .low) (ends K·Key key .high)) (answer r) (now (self .exit)) ⌝ }
+        ensures keeps { λ r. ⌜ (Rises-in K·Key (now (self .entry)) → Keeps (now (self .entry)) r (now (self .exit))) ⌝ }
     {
         if key.is_empty() {
             return Ok(self.items.len());
