@@ -41,7 +41,11 @@ pub fn held() -> [bool; 3]
 {
     let a = AnyRange::new(Bound::Excluded(raw(4)), Bound::Excluded(raw(6)));
     let b = AnyRange::new(Bound::Excluded(raw(4)), Bound::Excluded(raw(5)));
-    [a.contains(&raw(5)), b.contains(&raw(4)), b.contains(&raw(5))]
+    [
+        a.contains(&raw(5)),
+        b.contains(&raw(4)),
+        b.contains(&raw(5)),
+    ]
 }
 
 // 0..5 and 0..=4 touch 5..10; 0..5 and 6..10 are apart.

@@ -36,8 +36,8 @@ module _ (seen : List ℕ) (t u : Tally) (byte : ℕ) (h : Tallied seen t) where
       let more = more-left seen byte short in
       record {
         counts =
-          subst (λ (c : Counts). Counted (samples (seen ++ byte ∷ [])) c) (sym counts)
-          (subst (λ (xs : List ℤ). Counted xs (t .counts)) (sym (more .0)) (h .counts));
+            subst (λ (c : Counts). Counted (samples (seen ++ byte ∷ [])) c) (sym counts)
+            (subst (λ (xs : List ℤ). Counted xs (t .counts)) (sym (more .0)) (h .counts));
         left-over = grown ∙ sym (more .1);
       }
 
@@ -50,8 +50,8 @@ module _ (seen : List ℕ) (t u : Tally) (byte : ℕ) (h : Tallied seen t) where
       let listed : samples seen ++ x ∷ [] ≡ samples (seen ++ byte ∷ []) = ap (λ (y : ℤ). samples seen ++ y ∷ []) read ∙ sym (more .0) in
       record {
         counts =
-          subst (λ (c : Counts). Counted (samples (seen ++ byte ∷ [])) c) (sym counts)
-          (subst (λ (xs : List ℤ). Counted xs (countsWith (t .counts) x b)) listed (counted-more (samples seen) x (t .counts) (h .counts) b band));
+            subst (λ (c : Counts). Counted (samples (seen ++ byte ∷ [])) c) (sym counts)
+            (subst (λ (xs : List ℤ). Counted xs (countsWith (t .counts) x b)) listed (counted-more (samples seen) x (t .counts) (h .counts) b band));
         left-over = none ∙ sym (more .1);
       }
 
