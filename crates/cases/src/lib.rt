@@ -1,5 +1,6 @@
 // Worked cases: public calls at the station's kinds, with their answers as contracts.
 mod keys;
+mod ranges;
 #[cfg(test)]
 mod tests;
 
@@ -7,3 +8,6 @@ pub use keys::counts;
 pub use keys::minus_five;
 pub use keys::no_day_366_in_2099;
 pub use keys::place_of_year_2000;
+pub use ranges::held;
+pub use ranges::lens;
+pub use ranges::pairs;

@@ -148,14 +148,14 @@ fn if_held<K: Key>(start: Bound<K>, end: Bound<K>) -> Option<AnyRange<K>>
 }
 
 // Part of the answer of `product`: a part of the subject, `self`, or of the object, `other`.
-#[derive(Clone, Copy)]
+#[derive(Copy)]
 pub enum ProductArg<T> {
     Subject(AnyRange<T>),
     Object(AnyRange<T>),
 }
 
 // The answer of `product`.
-#[derive(Clone, Copy)]
+#[derive(Copy)]
 pub struct Product<T> {
     // what the range that starts earlier has below the start of the other
     pub before: Option<ProductArg<T>>,
@@ -166,7 +166,7 @@ pub struct Product<T> {
 }
 
 // The answer of `without`.
-#[derive(Clone, Copy)]
+#[derive(Copy)]
 pub enum Difference<T> {
     // what lies before the other range, or the whole range where the other holds no key
     Before(AnyRange<T>),
