@@ -10,7 +10,7 @@ use lawful::Key;
 use lawful::Value;
 
 // Puts an item before the one at the address; there is memory for it.
-pub fn insert_at<K: Key, V: Value>(items: &mut Vec<Item<K, V>>, addr: usize, item: Item<K, V>)
+pub(crate) fn insert_at<K: Key, V: Value>(items: &mut Vec<Item<K, V>>, addr: usize, item: Item<K, V>)
     requires within { ⌜ addr ≤ vec-len (now items) ⌝ }
     requires roomy { ⌜ vec-len (now items) < vec-cap (now items) ⌝ }
     ensures items { λ _. ⌜ vec-items (now (items .exit)) ≡ inserted (vec-items (now (items .entry))) addr item ⌝ }
@@ -24,7 +24,7 @@ pub fn insert_at<K: Key, V: Value>(items: &mut Vec<Item<K, V>>, addr: usize, ite
 }
 
 // Takes the item at the address away. The address stays, and is none once nothing is left.
-pub fn remove_at<K: Key, V: Value>(items: &mut Vec<Item<K, V>>, addr: usize) -> Option<usize>
+pub(crate) fn remove_at<K: Key, V: Value>(items: &mut Vec<Item<K, V>>, addr: usize) -> Option<usize>
     requires { ⌜ addr < vec-len (now items) ⌝ }
     ensures items { λ _. ⌜ vec-items (now (items .exit)) ≡ removed (vec-items (now (items .entry))) addr ⌝ }
     ensures len { λ _. ⌜ vec-len (now (items .exit)) + 1 ≡ vec-len (now (items .entry)) ⌝ }
@@ -36,14 +36,14 @@ pub fn remove_at<K: Key, V: Value>(items: &mut Vec<Item<K, V>>, addr: usize) -> 
 }
 
 // The address, or none past the last item.
-pub fn normalize<K: Key, V: Value>(items: &Vec<Item<K, V>>, addr: usize) -> Option<usize>
+pub(crate) fn normalize<K: Key, V: Value>(items: &Vec<Item<K, V>>, addr: usize) -> Option<usize>
     ensures { λ r. ⌜ Cases r (vec-len (now (items .entry)) ≤ addr) (λ i. (i ≡ addr) × (addr < vec-len (now (items .entry)))) ⌝ }
 {
     if addr < items.len() { Some(addr) } else { None }
 }
 
 // The address after this one, if an item stands there.
-pub fn next_item_address<K: Key, V: Value>(items: &Vec<Item<K, V>>, addr: usize) -> Option<usize>
+pub(crate) fn next_item_address<K: Key, V: Value>(items: &Vec<Item<K, V>>, addr: usize) -> Option<usize>
     requires { ⌜ addr < vec-len (now items) ⌝ }
     ensures { λ r. ⌜ Cases r (vec-len (now (items .entry)) ≤ addr + 1) (λ i. (i ≡ addr + 1) × (addr + 1 < vec-len (now (items .entry)))) ⌝ }
 {
@@ -51,7 +51,7 @@ pub fn next_item_address<K: Key, V: Value>(items: &Vec<Item<K, V>>, addr: usize)
 }
 
 // The address before this one, if there is one.
-pub fn previous_item_address(addr: usize) -> Option<usize>
+pub(crate) fn previous_item_address(addr: usize) -> Option<usize>
     ensures { λ r. ⌜ Cases r (addr ≡ 0) (λ i. (i + 1 ≡ addr)) ⌝ }
 {
     if addr == 0 { None } else { Some(addr - 1) }

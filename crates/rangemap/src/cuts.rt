@@ -66,7 +66,7 @@ fn cut_item<K: Key, V: Value>(
 }
 
 // From the item at `from` back, each item that shares a place with the key gives way to it. False if there is no slot for the result.
-pub fn cut_back<K: Key, V: Value>(
+pub(crate) fn cut_back<K: Key, V: Value>(
     items: &mut Vec<Item<K, V>>,
     slots: usize,
     from: usize,

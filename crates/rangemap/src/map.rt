@@ -6,7 +6,7 @@ use super::item::Item;
 mod changes;
 mod making;
 mod reads;
-pub mod walkers;
+pub(crate) mod walkers;
 
 #[derive(Drop)]
 pub struct RangeMap<K, V> {

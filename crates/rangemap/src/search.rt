@@ -26,7 +26,7 @@ fn is_before<K: Key>(a: &AnyRange<K>, b: &AnyRange<K>, connected: bool) -> bool
 }
 
 // Whether the two share a key; if touching ranges count as connected, or touch.
-pub fn matches<K: Key>(a: &AnyRange<K>, b: &AnyRange<K>, connected: bool) -> bool
+pub(crate) fn matches<K: Key>(a: &AnyRange<K>, b: &AnyRange<K>, connected: bool) -> bool
     ensures { λ r. ⌜ (Held (ends K·Key (now (a .entry))) → Held (ends K·Key (now (b .entry))) → Decides r (Meets (slack connected) (ends K·Key (now (a .entry))) (ends K·Key (now (b .entry))))) ⌝ }
 {
     match a.range_partial_cmp(b) {
@@ -87,7 +87,7 @@ fn address_in<K: Key, V: Value>(
 }
 
 // The last stored range that shares a key with the given one; if connected, else the last that touches it; else the place where it would stand.
-pub fn address<K: Key, V: Value>(
+pub(crate) fn address<K: Key, V: Value>(
     items: &[Item<K, V>],
     key: AnyRange<K>,
     connected: bool,

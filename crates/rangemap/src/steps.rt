@@ -20,7 +20,7 @@ use lawful::Value;
 use ranges::AnyRange;
 
 // The index of the last item that shares a key with the given range, else of the last that touches it; else where it would stand.
-pub fn address_of<K: Key, V: Value>(
+pub(crate) fn address_of<K: Key, V: Value>(
     items: &Vec<Item<K, V>>,
     key: AnyRange<K>,
 ) -> Result<usize, usize>
@@ -32,7 +32,7 @@ pub fn address_of<K: Key, V: Value>(
 }
 
 // Puts an item before the one at addr if that is kept, else in its place.
-pub fn put_item<K: Key, V: Value>(
+pub(crate) fn put_item<K: Key, V: Value>(
     items: &mut Vec<Item<K, V>>,
     addr: usize,
     kept: bool,
@@ -54,7 +54,7 @@ pub fn put_item<K: Key, V: Value>(
 }
 
 // Removes the item at addr unless it is kept.
-pub fn drop_item<K: Key, V: Value>(items: &mut Vec<Item<K, V>>, addr: usize, kept: bool)
+pub(crate) fn drop_item<K: Key, V: Value>(items: &mut Vec<Item<K, V>>, addr: usize, kept: bool)
     requires within { ⌜ addr < vec-len (now items) ⌝ }
     ensures spans { λ _. ⌜ listed K·Key (now (items .exit)) ≡ take addr (listed K·Key (now (items .entry))) ++ drop (cond kept addr (addr + 1)) (listed K·Key (now (items .entry))) ⌝ }
     ensures len { λ _. ⌜ vec-len (now (items .exit)) ≤ vec-len (now (items .entry)) ⌝ }
@@ -67,7 +67,7 @@ pub fn drop_item<K: Key, V: Value>(items: &mut Vec<Item<K, V>>, addr: usize, kep
 }
 
 // The index before addr, if the item there is connected to the key.
-pub fn connected_before<K: Key, V: Value>(
+pub(crate) fn connected_before<K: Key, V: Value>(
     items: &Vec<Item<K, V>>,
     addr: usize,
     key: AnyRange<K>,
