@@ -1,4 +1,6 @@
 // Worked cases: public calls at the station's kinds, with their answers as contracts.
+#![tactic(auto)]
+
 mod keys;
 mod ranges;
 #[cfg(test)]

@@ -1,4 +1,6 @@
 // The station's kinds: raw counts, samples, calendar seconds and instants; responses and bands.
+#![tactic(auto)]
+
 mod band;
 mod calendar;
 mod instant;

@@ -1,4 +1,6 @@
 // What a kind of keys, a kind of values and a change of values are, and what holds of any.
+#![tactic(auto)]
+
 mod change;
 mod fill;
 mod key;

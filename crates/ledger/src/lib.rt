@@ -1,4 +1,6 @@
 // What holds of what is held: theorems over every kind of values, each the contract of a function.
+#![tactic(auto)]
+
 ghost use Rattle.std.specs.Prelude.{ℕ};
 ghost use Rattle.ledger.specs.Canon.{Canon};
 ghost use Rattle.ledger.specs.Promise.{EveryRunKeeps};

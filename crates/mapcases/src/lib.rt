@@ -1,4 +1,6 @@
 // The range map over raw counts, on worked examples.
+#![tactic(auto)]
+
 mod label;
 #[cfg(test)]
 mod tests;

@@ -1,4 +1,6 @@
 // Reads a recorder's 24-bit samples from standard input and prints how many lie in each band.
+#![tactic(auto)]
+
 use std::io;
 use std::io::Read;
 use tally::Tally;

@@ -1,4 +1,6 @@
 // A tally of a recorder's raw samples by band, taken chunk by chunk.
+#![tactic(auto)]
+
 mod counts;
 mod part;
 mod report;
