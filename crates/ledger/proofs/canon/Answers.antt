@@ -6,7 +6,7 @@ use Rattle.ledger.proofs.canon.Goals as goal
 
 pub returns : goal.returns
 returns g c = λ count.
-    let eq = g.row.V-Value.equals in
+    let eq = g.V.Value.equals in
     let law = g.met.V.Value.lawful in
     record {
       sized = size_canonical eq law count;

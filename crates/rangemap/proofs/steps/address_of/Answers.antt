@@ -14,7 +14,7 @@ returns g c =
     record {
       within = index_cases _ _ c.deref.ensures.len r c.address.ensures.within;
       found = λ tight.
-          searched keys g.row.V-Value.equals key c.requires.full c.args.items.now.items tight r
+          searched keys g.V.Value.equals key c.requires.full c.args.items.now.items tight r
           (subst (λ xs. Index (length xs) r) same c.address.ensures.within)
           (subst (λ xs. Rising (spans keys xs) → Searched true (lo keys key) (hi keys key) (spans keys xs) r) same c.address.ensures.found);
     }

@@ -11,7 +11,7 @@ returns-then-not-is-empty g c =
     let key = ends g.K.Key c.args.key in
     let l = leb-false key.high key.low (sym c.if-not-is-empty.ensures) in
     let a = c.address-of in
-    does_intersects g.K.Key g.row.V-Value.equals g.met.V.Value.lawful m key.low key.high c.is-ok.result
+    does_intersects g.K.Key g.V.Value.equals g.met.V.Value.lawful m key.low key.high c.is-ok.result
     (λ r. c.is-ok.ensures.value ∙
     sym (meets_found g.K.Key.count (stored g.K.Key m) key.low key.high a.result l (index_listed g.K.Key m a.result a.ensures.within) r (a.ensures.found (g.K.Key.count, r))))
 
@@ -20,5 +20,5 @@ returns-else-not-is-empty g c =
     let m = c.args.self.now in
     let key = ends g.K.Key c.args.key in
     let l = leb-true key.high key.low (sym c.if-not-is-empty.ensures) in
-    does_intersects g.K.Key g.row.V-Value.equals g.met.V.Value.lawful m key.low key.high _
+    does_intersects g.K.Key g.V.Value.equals g.met.V.Value.lawful m key.low key.high _
     (λ r. ap not c.if-not-is-empty.false ∙ sym (meets_empty g.K.Key.count (stored g.K.Key m) key.low key.high l))

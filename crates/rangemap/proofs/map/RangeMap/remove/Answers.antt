@@ -13,7 +13,7 @@ returns-then-is-empty g c =
     let l = leb-true key.high key.low (sym c.if-is-empty.ensures) in
     record {
       does =
-          does_remove_none g.K.Key g.row.V-Value.equals g.met.V.Value.lawful c.args.self.now key.low key.high c.len.result c.len.ensures
+          does_remove_none g.K.Key g.V.Value.equals g.met.V.Value.lawful c.args.self.now key.low key.high c.len.result c.len.ensures
           (λ r p a b. let z : ⊥ = omega arith in absurd z);
       keeps = λ r. tt;
     }
@@ -24,7 +24,7 @@ returns-in-default g c =
     let key = ends g.K.Key c.args.key in
     record {
       does =
-          does_remove_none g.K.Key g.row.V-Value.equals g.met.V.Value.lawful m key.low key.high c.len-in-default.result c.len-in-default.ensures
+          does_remove_none g.K.Key g.V.Value.equals g.met.V.Value.lawful m key.low key.high c.len-in-default.result c.len-in-default.ensures
           (λ r p a b. held_stands 0 key.low key.high (stored g.K.Key m) c.in-default.field-0 (c.in-default.ensures.found (g.K.Key.count, r)) p (omega arith) (omega arith));
       keeps = λ r. tt;
     }
@@ -35,7 +35,7 @@ returns-then-cut-back g c =
     let l = leb-false key.high key.low (sym c.if-is-empty.ensures) in
     record {
       does =
-          does_remove g.K.Key g.row.V-Value.equals g.met.V.Value.lawful c.args.self.now key.low key.high _ c.len-then-cut-back.result refl c.len-then-cut-back.ensures l
+          does_remove g.K.Key g.V.Value.equals g.met.V.Value.lawful c.args.self.now key.low key.high _ c.len-then-cut-back.result refl c.len-then-cut-back.ensures l
           c.if-cut-back.ensures.taken;
       keeps = λ r. tt;
     }
@@ -46,7 +46,7 @@ returns-else-cut-back g c =
     let l = leb-false key.high key.low (sym c.if-is-empty.ensures) in
     record {
       does =
-          does_remove_full g.K.Key g.row.V-Value.equals g.met.V.Value.lawful c.args.self.now key.low key.high _ refl l
+          does_remove_full g.K.Key g.V.Value.equals g.met.V.Value.lawful c.args.self.now key.low key.high _ refl l
           (λ r. let t = c.if-cut-back.ensures.taken r in (ap (spans g.K.Key) t.0, t.1));
       keeps = λ r. (c.if-cut-back.ensures.taken (g.K.Key.count, r)).0;
     }

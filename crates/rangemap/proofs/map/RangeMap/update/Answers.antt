@@ -7,7 +7,7 @@ use Rattle.rangemap.specs.Ranges.{lo, hi}
 
 pub returns : goal.returns
 returns g c =
-    let eq = g.row.V-Value.equals in
+    let eq = g.V.Value.equals in
     let range = c.args.range in
     let f = g.C.Change.makes c.args.change.now in
     let m = c.args.self.now in
