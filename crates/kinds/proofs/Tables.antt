@@ -1,7 +1,6 @@
 -- A walk along the rows of a band table. Assumes nothing.
-use Rattle.std.proofs.Common.{◌≡◌, ℕ, ◌+◌, ◌<◌, ◌≤◌, true, false, cond, List, [], ◌∷◌, length, get_or, drop, ℤ, Some, None, Option, sym, refl, ap, ◌∙◌}
+use Rattle.std.proofs.Common.{◌≡◌, ℕ, ◌+◌, ◌<◌, ◌≤◌, true, false, cond, List, length, get_or, drop, ℤ, Some, None, sym, ap, ◌∙◌}
 use Rattle.std.proofs.lemmas.List.{at_drop_more, at_drop_all}
-use Rattle.kinds.specs.declared.band.Band.{Band}
 use Rattle.kinds.specs.declared.band.BandRow.{BandRow}
 use Rattle.kinds.specs.Bands.{band_in, holds}
 

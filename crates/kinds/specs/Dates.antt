@@ -1,10 +1,9 @@
 -- The sums of the calendar rule, worked out. Assumes nothing.
-use Rattle.std.specs.Prelude.{◌≡◌, ℕ, zero, suc, ◌+◌, ◌-◌, ◌*◌, ◌/◌, ◌%◌, ◌<◌, ◌≤◌, true, false, cond, eqb, refl}
-use Rattle.std.proofs.Common.{ap, ◌∙◌, arith}
+use Rattle.std.specs.Prelude.{◌≡◌, ℕ, zero, suc, ◌+◌, ◌-◌, ◌*◌, ◌/◌, ◌<◌, ◌≤◌, refl}
+use Rattle.std.proofs.Common.{ap, arith}
 use Rattle.std.proofs.lemmas.Bool.Decides.{nat_tests}
 use Rattle.kinds.specs.Rows.{before}
-use Rattle.kinds.specs.Calendar.{leap, days_in, days_to, seconds_in}
-use Rattle.kinds.specs.RowsLemmas.{before_next, before_le}
+use Rattle.kinds.specs.Calendar.{days_in, days_to, seconds_in}
 
 pub seconds_before : (d : ℕ) → before seconds_in d ≡ 86400 * d
 unfolding before

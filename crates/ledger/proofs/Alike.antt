@@ -1,5 +1,5 @@
 -- The size of what is held goes by what is held, up to equal values. Assumes nothing.
-use Rattle.std.proofs.Common.{◌≡◌, ℕ, zero, suc, ◌<◌, Bool, true, false, cond, is_some, Some, None, Option, sym, refl, ap, ◌∙◌, subst, arith}
+use Rattle.std.proofs.Common.{◌≡◌, ℕ, zero, suc, ◌<◌, Bool, true, cond, Some, None, Option, refl, ap, arith}
 use Rattle.std.proofs.lemmas.Bool.{false≢true}
 use Rattle.lawful.specs.Equals.{Equality, same}
 use Rattle.ledger.specs.Values.{Held, SameBelow, before, begins, size}

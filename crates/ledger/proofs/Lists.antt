@@ -1,7 +1,7 @@
 -- Lists of spans: the length of a canonical list is the size of what it holds, and no list that holds the same is shorter.
 use Rattle.std.proofs.Common.{◌≡◌, ℕ, zero, suc, ◌+◌, ◌<◌, ◌≤◌, Bool, true, false, cond, ltb, leb, ◌⊎◌, List, [], ◌∷◌, length, Some, None, Option, sym, refl, ap, ◌∙◌, subst, ap₂, inl, inr, arith}
 use Rattle.std.proofs.lemmas.Bool.{cases_lt, le-leb, lt-leb, lt-ltb, le-ltb, and_from, and_left, and_right, cond-true, cond-false}
-use Rattle.lawful.specs.Equals.{Equality, same}
+use Rattle.lawful.specs.Equals.{Equality}
 use Rattle.ledger.specs.Values.{Held, SameBelow, before, begins, size, sum_below}
 use Rattle.ledger.specs.Ledger.{within}
 use Rattle.ledger.specs.Spans.{Span, bearing, held, Parted, Rises, AllParted, Canonical}

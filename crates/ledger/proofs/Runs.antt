@@ -1,9 +1,9 @@
 -- Every run from the empty list keeps the promise.
 use Rattle.std.proofs.Common.{◌≡◌, ℕ, suc, ◌+◌, ◌-◌, ◌*◌, ◌<◌, ◌≤◌, Bool, true, false, cond, ◌&&◌, List, [], ◌∷◌, ◌++◌, length, None, sym, refl, ap, ◌∙◌, subst, arith}
 use mathlib.Core.Path.{fun_ext}
-use Rattle.lawful.specs.Equals.{Equality, same}
+use Rattle.lawful.specs.Equals.{Equality}
 use Rattle.ledger.specs.Values.{Held, SameBelow}
-use Rattle.ledger.specs.Ledger.{declined, Alike, Proper, covers, effect, changed, outcome, after}
+use Rattle.ledger.specs.Ledger.{declined, Alike, Proper, covers, effect, changed, outcome}
 use Rattle.ledger.specs.Spans.{Span, held, Canonical}
 use Rattle.ledger.specs.Promise.{Event, accepted, changes, Step, Link, Run, AnswersAlike, made, Promise, EveryRunKeeps}
 use Rattle.lawful.specs.EqualsLemmas.{same_sym, same_trans}

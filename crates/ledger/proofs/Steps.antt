@@ -4,7 +4,6 @@ use Rattle.std.proofs.lemmas.Bool.{false≢true, true≢false, cond-true, cond-f
 use Rattle.lawful.specs.Equals.{Equality, same}
 use Rattle.ledger.specs.Values.{Held, SameBelow, size}
 use Rattle.ledger.specs.Ledger.{Call, insert, insert_disconnected, update, remove, get, intersects, list, Answer, ranges, declined, said, found, nothing, Alike, alike_ranges, alike_declined, alike_said, alike_found, alike_nothing, Proper, within, reaches, covers, effect, changed, Ledger, Outcome, accept, decline, offer, meets, outcome}
-use Rattle.ledger.specs.Spans.{held}
 use Rattle.ledger.specs.Promise.{accepted}
 use Rattle.ledger.proofs.Sums.{any_eq}
 use Rattle.lawful.specs.EqualsLemmas.{same_refl, same_trans, same_is_some}

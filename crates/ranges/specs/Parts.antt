@@ -1,5 +1,5 @@
 -- The span of a range, and what the answers made of ranges say. Assumes nothing.
-use Rattle.std.specs.Prelude.{◌≡◌, ℕ, ◌+◌, ◌<◌, ◌⊎◌, Some, None, Option}
+use Rattle.std.specs.Prelude.{◌≡◌, ◌+◌, ◌<◌, ◌⊎◌, Some, None, Option}
 use Rattle.std.specs.declared.ops.Bound.{Bound}
 use Rattle.lawful.specs.declared.key.Key.{Ghosts}
 use Rattle.ranges.specs.declared.range.any.AnyRange.{AnyRange}

@@ -1,5 +1,5 @@
 -- The text that is printed of a tally: fields parted by one space, a line feed after each line. Assumes nothing.
-use Rattle.std.specs.Prelude.{ℕ, zero, suc, List, [], ◌∷◌, ◌++◌, length, Some, None, codes, decimal, Option}
+use Rattle.std.specs.Prelude.{ℕ, zero, suc, List, [], ◌++◌, length, Some, None, codes, decimal, Option}
 use Rattle.std.specs.Fmt.{signed_decimal}
 use Rattle.tally.specs.declared.counts.First.{First}
 use Rattle.tally.specs.declared.tally.Tally.{Tally}
