@@ -1,6 +1,6 @@
 // The compiled calls answer what their contracts say.
+use crate::key_ranges::*;
 use crate::keys::*;
-use crate::ranges::*;
 
 #[test]
 fn keys(rt: HostRuntime) {

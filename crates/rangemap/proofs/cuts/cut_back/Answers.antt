@@ -20,7 +20,7 @@ back-preserved g c =
       h.few,
       h.capacity ∙ c.back.invariant.2,
       walked_on g.K.Key (ends g.K.Key c.args.key).low (ends g.K.Key c.args.key).high c.requires.full (vec_items v) c.args.from l c.requires.found (vec_items c.back.items) c.back.addr c.back.invariant.3
-          (span_at g.K.Key c.index.result.now) (vec_items c.cut-item.new.items) c.if-addr-eq0.false h.turned,
+          (span_at g.K.Key c.index.result.now) (vec_items c.cut_item.new.items) c.if-addr-eq0.false h.turned,
     )
 
 pub returns-then-addr-eq0 : goal.returns-then-addr-eq0
@@ -31,7 +31,7 @@ returns-then-addr-eq0 g c =
     record {
       taken =
           walked_start g.K.Key (ends g.K.Key c.args.key).low (ends g.K.Key c.args.key).high c.requires.full (vec_items v) c.args.from l c.requires.found (vec_items c.back.items) c.back.addr c.back.invariant.3
-          (span_at g.K.Key c.index.result.now) (vec_items c.cut-item.new.items) c.if-addr-eq0.true h.turned;
+          (span_at g.K.Key c.index.result.now) (vec_items c.cut_item.new.items) c.if-addr-eq0.true h.turned;
       few = h.few;
       capacity = h.capacity ∙ c.back.invariant.2;
     }
@@ -58,7 +58,7 @@ returns-in-Done g c =
     record {
       taken =
           walked_done g.K.Key (ends g.K.Key c.args.key).low (ends g.K.Key c.args.key).high c.requires.full (vec_items v) c.args.from l c.requires.found (vec_items c.back.items) c.back.addr c.back.invariant.3
-          (span_at g.K.Key c.index.result.now) (vec_items c.cut-item.new.items) h.turned.0 h.turned.1;
+          (span_at g.K.Key c.index.result.now) (vec_items c.cut_item.new.items) h.turned.0 h.turned.1;
       few = h.few;
       capacity = h.capacity ∙ c.back.invariant.2;
     }

@@ -46,7 +46,7 @@ returns-else-len-slots g c =
     let xs = vec_items c.args.items.now in
     let l : c.args.addr < length xs = omega (arith, c.args.items.now.ok.0, c.requires.within) in
     let w = leaves_split g.K.Key (ends g.K.Key c.index.result.now.key) (ends g.K.Key c.args.key) c.requires.full c.in-Split.left c.in-Split.right c.in-Split.ensures in
-    let e = c.insert-at.ensures in
+    let e = c.insert_at.ensures in
     let t = gave_split g.K.Key xs c.args.addr c.index.result.now l c.index.ensures c.args.key c.in-Split.left c.in-Split.right w.0 w.1 in
     record {
       turned = (

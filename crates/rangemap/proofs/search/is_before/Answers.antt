@@ -6,4 +6,4 @@ pub returns-in-Some : goal.returns-in-Some
 returns-in-Some g c h k =
     let x = ends g.K.Key c.args.a.now in
     let y = ends g.K.Key c.args.b.now in
-    before_is x y c.args.connected c.is-before.result (c.is-before.ensures x y c.in-Some.ensures)
+    before_is x y c.args.connected c.is_before.result (c.is_before.ensures x y c.in-Some.ensures)

@@ -5,12 +5,12 @@ use Rattle.rangemap.proofs.Looks.{len_listed}
 use Rattle.rangemap.proofs.Walking.{splits_count, splits_last, splits_stands}
 use Rattle.rangemap.proofs.map.RangeMap.first_past.Goals as goal
 
-pub returns-in-default : goal.returns-in-default
-returns-in-default g c =
+pub returns-in_default : goal.returns-in_default
+returns-in_default g c =
     let m = c.args.self.now in
     record {
       within = omega arith;
-      splits = λ r. splits_count g.K.Key.count c.args.place (stored g.K.Key m) r c.len.result c.in-default.ensures (omega (arith, len_listed g.K.Key m));
+      splits = λ r. splits_count g.K.Key.count c.args.place (stored g.K.Key m) r c.len.result c.in_default.ensures (omega (arith, len_listed g.K.Key m));
     }
 
 pub returns-in-Ok : goal.returns-in-Ok

@@ -8,7 +8,7 @@ loop-item-init g c =
     let m = c.args.map.now in
     let i = c.iter-walker.ensures in (
       omega (arith, i.place, i.left),
-      λ r. gather_none (end g.K.Key) (vec_items m.items) c.iter-walker.result.place (vec_items c.in-ok-out.out) i.place c.in-ok-out.ensures.items
+      λ r. gather_none (end g.K.Key) (vec_items m.items) c.iter-walker.result.place (vec_items c.in_ok-out.out) i.place c.in_ok-out.ensures.items
           (climbs_spans g.K.Key 0 g.K.Key.count (vec_items m.items) r),
     )
 
@@ -18,10 +18,10 @@ loop-item-preserved g c =
     let s = c.in-Some.ensures in (
       s.total ∙ c.loop-item.invariant.0,
       λ r. gather_more (end g.K.Key) (vec_items c.args.map.now.items) w.place c.next.new.self.place c.in-Some.item (vec_items c.loop-item.out)
-          (vec_items c.push.new.self) c.in-ok-push.ensures.items (s.next (c.loop-item.invariant.0, r)) (c.loop-item.invariant.1 r),
+          (vec_items c.push.new.self) c.in_ok-push.ensures.items (s.next (c.loop-item.invariant.0, r)) (c.loop-item.invariant.1 r),
     )
 
 pub returns : goal.returns
 returns g c r =
     let w = c.loop-item.walker in
-    gather_all (end g.K.Key) (vec_items c.args.map.now.items) w.place (vec_items c.loop-item.out) (c.in-default.ensures.none (c.loop-item.invariant.0, r)) (c.loop-item.invariant.1 r)
+    gather_all (end g.K.Key) (vec_items c.args.map.now.items) w.place (vec_items c.loop-item.out) (c.in_default.ensures.none (c.loop-item.invariant.0, r)) (c.loop-item.invariant.1 r)
