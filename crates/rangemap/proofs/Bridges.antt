@@ -1,18 +1,15 @@
 -- What the ranges' answers say, in the walks' words.
-use Rattle.std.proofs.Common.{◌≡◌, ℕ, ◌<◌, ◌≤◌, min, max, Bool, true, false, ◌&&◌, ltb, leb, ◌⊎◌, Some, None, Decides, Option, sym, refl, ◌∙◌, inl, inr, arith}
+use Rattle.std.proofs.Common.{◌<◌, ◌≤◌, Some, None, Decides, Option, inl, inr, arith}
 use Rattle.std.proofs.lemmas.Bool.{and_from, and_parts, leb-true, ltb-true, le-leb, lt-ltb}
-use Rattle.std.specs.declared.ops.Bound.{Bound}
-use Rattle.std.specs.declared.ops.Bound.TheVariants.{Included, Excluded, Unbounded}
 use Rattle.lawful.specs.declared.key.Key.{Ghosts}
 use Rattle.ranges.specs.declared.range.any.AnyRange.{AnyRange}
 use Rattle.ranges.specs.declared.range.ProductArg.{ProductArg}
 use Rattle.ranges.specs.declared.range.ProductArg.TheVariants.{Subject, Object}
 use Rattle.ranges.specs.declared.range.Product.{Product}
-use Rattle.ranges.specs.Places.{high}
 use Rattle.ranges.specs.Ranges.{connects, shared}
 use Rattle.ranges.specs.Parts.{span, Leads, Trails, Cropped, Multiplies}
 use Rattle.rangemap.proofs.Looks.{high_within}
-use Rattle.rangemap.specs.Ranges.{lo, hi, Full, Connected, Before, After, Shared, Multiplied}
+use Rattle.rangemap.specs.Ranges.{hi, Full, Connected, Before, After, Shared, Multiplied}
 
 module _ {K : Type 0} (g : Ghosts K) (a b : AnyRange K) where
   pub connects_decides : Decides (connects (span g a) (span g b)) (Connected g a b)

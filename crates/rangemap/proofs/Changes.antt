@@ -1,5 +1,5 @@
 -- A turn of the walk of `update`, over the items as the code has them.
-use Rattle.std.proofs.Common.{◌≡◌, ℕ, suc, ◌+◌, ◌-◌, ◌<◌, ◌≤◌, min, max, Bool, true, false, cond, ◌⊎◌, List, [], ◌∷◌, ◌++◌, map, length, get_or, take, drop, set, Some, None, Option, sym, refl, ap, ◌∙◌, subst, inl, inr, ⊎_elim, arith}
+use Rattle.std.proofs.Common.{◌≡◌, ℕ, ◌+◌, ◌-◌, ◌<◌, ◌≤◌, min, max, Bool, List, ◌∷◌, ◌++◌, length, get_or, take, drop, set, Some, None, Option, sym, ap, ◌∙◌, subst, ⊎_elim, arith}
 use Rattle.std.proofs.lemmas.List.{length-map, length-take-le, drop_at, take-append-le, take-take, get_or_default}
 use Rattle.std.proofs.lemmas.Bool.{cases_lt}
 use Rattle.rangemap.specs.declared.item.Item.{Item}
@@ -14,11 +14,10 @@ use Rattle.rangemap.specs.Ranges.{After, Before, Connected, Cut, Full, Multiplie
 use Rattle.lawful.specs.Equals.{Equality}
 use Rattle.ledger.specs.Spans.{Span}
 use Rattle.rangemap.specs.Spans.{span, Same, Tight, Ends, From, put, put_at, put_made, Rest, Changed, Walk, Turn}
-use Rattle.rangemap.proofs.Held.{from_less}
 use Rattle.rangemap.proofs.Parts.{before_object, before_subject, before_level, none_some, some_same}
 use Rattle.rangemap.proofs.Turns.{read_at, span_at_lem, same_here, set_tail, turn_apart}
 use Rattle.rangemap.proofs.Updates.{made_after, made_within, update_before, update_clear, update_first, update_level}
-use Rattle.rangemap.proofs.Walks.{walk_full, walk_back_canonical, walk_done, walk_whole, walk_cut, turn_from, walk_back, last_full, last_order, last_ends}
+use Rattle.rangemap.proofs.Walks.{walk_full, walk_back_canonical, walk_whole, walk_cut, turn_from, walk_back}
 
 -- the item keeps its part after the key
 pub kept_tail : {K V : Type 0} (g : Ghosts K) (eq : V → V → Bool) (xs : List (Item K V)) (addr : ℕ) (r : AnyRange K) (v : V) (blank : Option V) (part : Option (ProductArg K)) → addr < length xs → object_of part ≡ Some r → drop addr (spans g (set xs addr (record { key = r; value = v }))) ≡ tail_after g eq v blank part (drop (addr + 1) (spans g xs))

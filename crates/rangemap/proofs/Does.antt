@@ -1,9 +1,9 @@
 -- What a walk on the items, or on their copy, does to a map.
-use Rattle.std.proofs.Common.{◌≡◌, ℕ, ◌<◌, ◌≤◌, Bool, cond, List, length, Ok, Err, vec_items, vec_len, Option, Result, sym, refl, ap, ◌∙◌, subst, arith}
+use Rattle.std.proofs.Common.{◌≡◌, ℕ, ◌<◌, ◌≤◌, Bool, cond, List, length, Ok, Err, vec_items, vec_len, Option, Result, sym, ap, ◌∙◌, subst, arith}
 use Rattle.std.proofs.lemmas.List.{length-map}
 use Rattle.lawful.specs.Equals.{Equality}
 use Rattle.ledger.specs.Ledger.{Call, within, ranges, offer, outcome}
-use Rattle.ledger.specs.Spans.{Span, held, Canonical}
+use Rattle.ledger.specs.Spans.{held, Canonical}
 use Rattle.ledger.specs.Promise.{Step}
 use Rattle.ledger.proofs.Calls.{book}
 use Rattle.rangemap.specs.declared.decline.Decline.{Decline}

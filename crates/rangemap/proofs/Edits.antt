@@ -1,5 +1,5 @@
 -- The changes, linked to the ledger.
-use Rattle.std.proofs.Common.{◌≡◌, ℕ, suc, ◌+◌, ◌<◌, ◌≤◌, Bool, true, false, cond, leb, ◌⊎◌, List, ◌∷◌, ◌++◌, length, take, drop, Some, None, Ok, vec_items, vec_len, Option, sym, refl, ap, ◌∙◌, subst, ap₂, inl, inr, arith}
+use Rattle.std.proofs.Common.{◌≡◌, ℕ, suc, ◌+◌, ◌<◌, ◌≤◌, Bool, true, false, cond, leb, ◌⊎◌, List, ◌∷◌, ◌++◌, length, take, None, Ok, vec_items, vec_len, sym, refl, ap, ◌∙◌, subst, ap₂, inl, inr, arith}
 use Rattle.std.proofs.lemmas.Bool.{cases_Bool, cond-true, cond-false, and_parts, and_from, leb-true, le-leb}
 use Rattle.std.proofs.lemmas.List.{map-append, take-map, drop-map}
 use Rattle.std.proofs.lemmas.List.Edits.{length-insert}
@@ -11,7 +11,6 @@ use Rattle.ledger.specs.Spans.{Span, held, Rises, Canonical}
 use Rattle.ledger.specs.Promise.{Step}
 use Rattle.lawful.specs.EqualsLemmas.{same_eq}
 use Rattle.ledger.proofs.Calls.{book, Results, step_like, offer_accepted, offer_full, meets_yes, meets_no, disconnected_empty, disconnected_connected, disconnected_offer}
-use Rattle.rangemap.specs.declared.item.Item.{Item}
 use Rattle.ranges.specs.declared.range.any.AnyRange.{AnyRange}
 use Rattle.rangemap.specs.declared.map.RangeMap.{RangeMap}
 use Rattle.rangemap.specs.Items.{span_at, spans}

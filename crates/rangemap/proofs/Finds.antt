@@ -1,5 +1,5 @@
 -- What the search answers, in the words of the walks. Assumes nothing.
-use Rattle.std.proofs.Common.{◌≡◌, ℕ, suc, ◌+◌, ◌<◌, ◌≤◌, Bool, true, List, [], ◌∷◌, length, get_or, take, drop, Ok, Err, Result, subst, inl, inr, arith, MatchResult}
+use Rattle.std.proofs.Common.{◌≡◌, ℕ, suc, ◌+◌, ◌<◌, ◌≤◌, Bool, true, List, [], ◌∷◌, length, take, drop, Ok, Err, Result, subst, inl, inr, arith, MatchResult}
 use Rattle.std.proofs.ByRecursion.{All-get_or}
 use Rattle.std.proofs.lemmas.List.{length-map}
 use Rattle.std.specs.List.{AllByRecursion as All}
@@ -8,8 +8,8 @@ use Rattle.ranges.specs.declared.range.any.AnyRange.{AnyRange}
 use Rattle.ledger.specs.Spans.{Span, Rises}
 use Rattle.rangemap.specs.declared.item.Item.{Item}
 use Rattle.rangemap.specs.Items.{Found, Free, span_at, spans}
-use Rattle.rangemap.specs.Ranges.{lo, hi, Full, Connected}
-use Rattle.rangemap.specs.Search.{Index, Rising, Joins, Last, Stands, Searched}
+use Rattle.rangemap.specs.Ranges.{lo, hi, Full}
+use Rattle.rangemap.specs.Search.{Index, Rising, Joins, Last, Searched}
 use Rattle.rangemap.specs.Spans.{Tight, From, Ends}
 use Rattle.rangemap.specs.Walks.{end_of}
 use Rattle.rangemap.proofs.Held.{leads_from}

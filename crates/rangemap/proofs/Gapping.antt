@@ -1,16 +1,14 @@
 -- Steps of the walker over the gaps.
-use Rattle.std.proofs.Common.{◌≡◌, ℕ, zero, suc, ◌+◌, ◌-◌, ◌<◌, ◌≤◌, ◌⊎◌, List, [], ◌∷◌, ◌++◌, length, get_or, take, drop, Some, None, vec_items, vec_len, Option, sym, refl, ap, ◌∙◌, subst, inl, inr, arith}
-use Rattle.std.specs.Option.{option_map}
+use Rattle.std.proofs.Common.{◌≡◌, ℕ, zero, suc, ◌+◌, ◌-◌, ◌<◌, ◌≤◌, ◌⊎◌, List, [], ◌∷◌, ◌++◌, get_or, take, drop, Some, None, vec_items, vec_len, sym, refl, ap, ◌∙◌, subst, inl, inr, arith}
 use Rattle.std.specs.List.{AllByRecursion as All}
 use Rattle.std.proofs.lemmas.List.{drop_all, take_more}
 use Rattle.std.proofs.lemmas.Bool.{cases_lt}
 use Rattle.ledger.specs.Spans.{Span, Gap, Rises, gap, gaps_from, gaps}
 use Rattle.ledger.proofs.Gaps.{gap_there, gap_not, gaps_rise}
-use Rattle.ledger.proofs.Lists.{rises_from}
 use Rattle.rangemap.specs.declared.item.Item.{Item}
 use Rattle.ranges.specs.declared.range.any.AnyRange.{AnyRange}
 use Rattle.rangemap.specs.declared.map.RangeMap.{RangeMap}
-use Rattle.rangemap.specs.Items.{span_at, spans}
+use Rattle.rangemap.specs.Items.{span_at}
 use Rattle.rangemap.specs.Maps.{stored, RisesIn, Ready}
 use Rattle.rangemap.specs.Search.{Splits}
 use Rattle.rangemap.specs.Walks.{past, end_of, gap_end, gap_of, First, Moved, Stays}

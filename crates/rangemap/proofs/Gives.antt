@@ -1,5 +1,5 @@
 -- One turn of the removal: what becomes of the item at an index.
-use Rattle.std.proofs.Common.{◌≡◌, ℕ, suc, ◌+◌, ◌<◌, ◌≤◌, min, max, ltb, List, [], ◌∷◌, ◌++◌, map, length, get_or, take, drop, set, sym, ap, ◌∙◌, subst, ap₂, inl, inr, add-one, arith}
+use Rattle.std.proofs.Common.{◌≡◌, ℕ, suc, ◌+◌, ◌<◌, ◌≤◌, min, max, List, ◌∷◌, ◌++◌, length, get_or, take, drop, set, sym, ap, ◌∙◌, subst, ap₂, inl, inr, add-one, arith}
 use Rattle.ranges.specs.Ranges.{Span as Ends, Held}
 use Rattle.ranges.specs.Parts.{Leaves}
 use Rattle.ranges.specs.declared.range.Difference.TheVariants.{Before, After, Split, Empty}

@@ -1,10 +1,10 @@
 -- The ends of the walk of `insert`: v is put at the places from l to below h.
-use Rattle.std.proofs.Common.{◌≡◌, ℕ, ◌<◌, ◌≤◌, Bool, true, false, ◌⊎◌, List, [], ◌∷◌, ◌++◌, Some, None, Option, sym, refl, ap, ◌∙◌, subst, inl, inr, ⊎_elim, arith}
+use Rattle.std.proofs.Common.{◌≡◌, ℕ, ◌<◌, ◌≤◌, Bool, true, List, ◌∷◌, ◌++◌, Some, ◌∙◌, ⊎_elim, arith}
 use Rattle.std.proofs.lemmas.Bool.{cases_lt}
 use Rattle.lawful.specs.Equals.{Equality}
 use Rattle.ledger.specs.Spans.{Span, held}
-use Rattle.rangemap.specs.Spans.{span, Same, Leads, Tight, From, Ends, Meets, put, Alters, Rest, Changed}
-use Rattle.rangemap.proofs.Held.{held_at, canonical_meets, meets_like, meets_apart, ends_like, ends_before}
+use Rattle.rangemap.specs.Spans.{span, Tight, From, Ends, put, Alters, Rest, Changed}
+use Rattle.rangemap.proofs.Held.{canonical_meets, meets_like, meets_apart, ends_like, ends_before}
 use Rattle.rangemap.proofs.Put.{same_held, unequal_like, put_from, put_leads}
 use Rattle.rangemap.proofs.Rests.{alters_below, alters_inside, rest_put, rest_end}
 

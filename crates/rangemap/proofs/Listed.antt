@@ -1,5 +1,5 @@
 -- The spans of a list of items, after the list is edited.
-use Rattle.std.proofs.Common.{◌≡◌, ℕ, suc, ◌+◌, ◌<◌, ◌≤◌, min, max, Bool, true, false, cond, List, [], ◌∷◌, ◌++◌, map, length, get_or, take, drop, set, sym, refl, ap, ◌∙◌, subst, add-one, arith, drop-cons}
+use Rattle.std.proofs.Common.{◌≡◌, ℕ, suc, ◌+◌, ◌<◌, ◌≤◌, min, max, Bool, true, false, cond, List, ◌∷◌, ◌++◌, map, length, get_or, take, drop, set, sym, ap, ◌∙◌, add-one, arith, drop-cons}
 use Rattle.std.specs.List.{insert, remove}
 use Rattle.std.proofs.lemmas.List.{append_cancel_left, map-append, map-set, take-map, drop-map, length-map, drop_all, drop_at, length-take-le, set_split, take-append-drop, take-append-le, take-take}
 use Rattle.std.proofs.lemmas.Bool.{cond-true, cond-false}
@@ -8,7 +8,7 @@ use Rattle.ranges.specs.declared.range.any.AnyRange.{AnyRange}
 use Rattle.lawful.specs.declared.key.Key.{Ghosts}
 use Rattle.rangemap.specs.Ranges.{lo, hi}
 use Rattle.rangemap.specs.Items.{span_at, span_of, spans}
-use Rattle.rangemap.specs.Ranges.{Full, Connected}
+use Rattle.rangemap.specs.Ranges.{Connected}
 use Rattle.lawful.specs.Equals.{Equality}
 use Rattle.ledger.specs.Spans.{Span}
 use Rattle.rangemap.specs.Spans.{span, joined, connects, put, put_at}

@@ -1,20 +1,19 @@
 -- The reads, linked to the ledger.
-use Rattle.std.proofs.Common.{◌≡◌, ℕ, suc, ◌+◌, ◌<◌, ◌≤◌, Bool, true, false, ◌&&◌, ltb, leb, List, ◌∷◌, length, get_or, take, drop, is_some, is_ok, Some, None, Ok, Err, vec_items, vec_len, Option, Result, sym, refl, ap, ◌∙◌, subst, arith}
+use Rattle.std.proofs.Common.{◌≡◌, ℕ, ◌+◌, ◌<◌, ◌≤◌, Bool, true, false, ltb, leb, List, ◌∷◌, length, get_or, take, drop, is_ok, Some, None, Ok, Err, vec_items, vec_len, Option, Result, sym, refl, ap, ◌∙◌, subst, arith}
 use Rattle.std.specs.declared.ops.Bound.{Bound}
 use Rattle.std.specs.declared.ops.Bound.TheVariants.{Included, Excluded, Unbounded}
 use Rattle.ranges.specs.Places.{high}
 use Rattle.std.proofs.lemmas.Bool.{and_parts, leb-true, ltb-true}
 use Rattle.lawful.specs.Equals.{Equality}
-use Rattle.lawful.specs.Equals.{same}
-use Rattle.ledger.specs.Ledger.{get, intersects, list, found, said, nothing, within, meets, outcome}
-use Rattle.ledger.specs.Spans.{Span, held, Rises, Canonical}
+use Rattle.ledger.specs.Ledger.{get, intersects, list, found, said, nothing, within, meets}
+use Rattle.ledger.specs.Spans.{Span, held, Rises}
 use Rattle.lawful.specs.EqualsLemmas.{same_eq}
 use Rattle.ledger.proofs.Lists.{within_in}
 use Rattle.ledger.proofs.Calls.{step_like, get_found, intersects_said, listed_nothing, meets_yes, meets_no}
 use Rattle.std.proofs.lemmas.List.{length-map, drop_more}
 use Rattle.rangemap.specs.declared.item.Item.{Item}
 use Rattle.rangemap.specs.declared.map.RangeMap.{RangeMap}
-use Rattle.rangemap.specs.Items.{span_at, spans}
+use Rattle.rangemap.specs.Items.{span_at}
 use Rattle.rangemap.specs.Maps.{stored, RisesIn, Does}
 use Rattle.rangemap.specs.Search.{Found, Last, Stands, Index}
 use Rattle.rangemap.proofs.Rising.{Parts, parts, span_read}

@@ -1,5 +1,5 @@
 -- How two ranges lie, from the comparison of both.
-use Rattle.std.proofs.Common.{◌≡◌, ℕ, ◌+◌, ◌<◌, ◌≤◌, Bool, true, false, cond, ◌&&◌, ltb, leb, ◌⊎◌, Decides, sym, refl, ap, ◌∙◌, inl, inr, arith}
+use Rattle.std.proofs.Common.{◌≡◌, ℕ, ◌+◌, Bool, true, false, cond, ◌&&◌, ltb, leb, ◌⊎◌, Decides, sym, ap, ◌∙◌, inl, inr, arith}
 use Rattle.std.proofs.lemmas.Bool.{cases_Bool, and_parts, and_from, leb-true, leb-false, le-leb, ltb-true, lt-ltb, le-ltb}
 use Rattle.ranges.specs.Ranges.{Span as Ends}
 use Rattle.rangemap.specs.Ranges.{Meets, slack}

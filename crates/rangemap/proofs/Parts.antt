@@ -1,5 +1,5 @@
 -- What the parts of a product say, by owner.
-use Rattle.std.proofs.Common.{◌≡◌, ℕ, ◌<◌, ◌≤◌, min, max, Some, None, Option, sym, refl, ap, ◌∙◌, subst, arith}
+use Rattle.std.proofs.Common.{◌≡◌, ℕ, ◌<◌, ◌≤◌, min, max, Some, None, Option, sym, subst, arith}
 use Rattle.ranges.specs.declared.range.any.AnyRange.{AnyRange}
 use Rattle.lawful.specs.declared.key.Key.{Ghosts}
 use Rattle.rangemap.specs.Ranges.{lo, hi}

@@ -1,12 +1,12 @@
 -- A span put in front of a list, and a list's end replaced.
-use Rattle.std.proofs.Common.{◌≡◌, ℕ, suc, ◌+◌, ◌<◌, ◌≤◌, min, max, Bool, true, false, cond, ◌&&◌, ltb, leb, ◌⊎◌, List, [], ◌∷◌, ◌++◌, Some, None, Option, sym, refl, ap, ◌∙◌, subst, inl, inr, ⊎_elim, arith}
-use Rattle.std.proofs.lemmas.Bool.{and_from, and_left, and_right, and_parts, and_cases, leb-true, ltb-true, le-leb, lt-ltb, cond-true, cond-false, cond_both, cases_lt, cases_Bool, both_ways, false≢true}
+use Rattle.std.proofs.Common.{◌≡◌, ℕ, suc, ◌<◌, ◌≤◌, min, max, Bool, true, false, cond, ◌&&◌, ltb, leb, List, [], ◌∷◌, ◌++◌, Some, Option, sym, refl, ap, ◌∙◌, subst, ⊎_elim, arith}
+use Rattle.std.proofs.lemmas.Bool.{and_from, and_left, and_right, and_parts, and_cases, leb-true, ltb-true, le-leb, lt-ltb, cond-true, cond-false, cond_both, cases_lt, cases_Bool, both_ways}
 use Rattle.lawful.specs.Equals.{Equality}
 use Rattle.ledger.specs.Ledger.{within}
 use Rattle.ledger.specs.Spans.{Span, held}
 use Rattle.rangemap.specs.Spans.{span, joined, connects, Same, Precedes, Leads, Tight, From, put}
 use Rattle.lawful.specs.EqualsLemmas.{same_refl as alike_refl, same_sym as alike_sym, same_trans as alike_trans}
-use Rattle.rangemap.proofs.Held.{held_at, held_low, held_high, held_past, leads_apart}
+use Rattle.rangemap.proofs.Held.{held_at, held_low, held_high}
 
 -- What it is to be connected, in numbers.
 module _ (l h a b : ℕ) where

@@ -1,11 +1,11 @@
 -- The steps of a backward walk over a canonical list, and its end.
-use Rattle.std.proofs.Common.{◌≡◌, ℕ, ◌<◌, ◌≤◌, Bool, true, false, ◌⊎◌, List, [], ◌∷◌, ◌++◌, Some, None, Option, sym, refl, ap, ◌∙◌, subst, inl, inr, ⊎_elim, arith}
+use Rattle.std.proofs.Common.{◌≡◌, ℕ, ◌<◌, ◌≤◌, Bool, List, ◌∷◌, ◌++◌, Some, None, Option, sym, refl, ap, ◌∙◌, ⊎_elim, arith}
 use Rattle.std.proofs.lemmas.Bool.{cases_lt}
 use Rattle.lawful.specs.Equals.{Equality}
 use Rattle.ledger.specs.Spans.{Span, held}
-use Rattle.rangemap.specs.Spans.{span, Same, Precedes, Leads, Tight, From, Ends, Meets, put, put_made, Alters, Rest, Changed}
-use Rattle.rangemap.proofs.Held.{held_at, held_high, held_past, held_before, from_less, leads_from, canonical_left, canonical_right, canonical_meets, canonical_append, meets_like, meets_apart, ends_like, ends_before}
-use Rattle.rangemap.proofs.Put.{same_refl, same_sym, same_at, same_by, same_trans, same_after, put_canonical, put_leads, put_from, held_put}
+use Rattle.rangemap.specs.Spans.{span, Same, Leads, Tight, From, Ends, Meets, put, put_made, Alters, Rest, Changed}
+use Rattle.rangemap.proofs.Held.{held_at, held_high, held_past, held_before, from_less, canonical_left, canonical_right, canonical_append}
+use Rattle.rangemap.proofs.Put.{same_refl, same_at, same_by, same_trans, same_after, put_canonical, put_from, held_put}
 
 module _ {V : Type 0} {eq : V → V → Bool} (laws : Equality eq) (l h : ℕ) (m : Option V → Option V) where
   -- a change seen at other names of what is held

@@ -1,5 +1,5 @@
 -- Rising lists, taken apart at an index.
-use Rattle.std.proofs.Common.{◌≡◌, ℕ, zero, suc, ◌+◌, ◌<◌, ◌≤◌, ◌⊎◌, List, [], ◌∷◌, length, get_or, take, drop, sym, refl, ap, ◌∙◌, subst, inl, inr, add-one, arith}
+use Rattle.std.proofs.Common.{◌≡◌, ℕ, zero, suc, ◌+◌, ◌<◌, ◌≤◌, ◌⊎◌, List, [], ◌∷◌, length, get_or, take, drop, sym, ap, ◌∙◌, subst, inl, inr, add-one, arith}
 use Rattle.std.specs.List.{HoldsAt, AllByRecursion as All}
 use Rattle.std.proofs.lemmas.List.{get_or-map, length-map, drop_more, drop_all, nil_from_length}
 use Rattle.std.proofs.lemmas.Bool.{cases_lt}

@@ -1,22 +1,20 @@
 -- The key stands alone: nothing stored is connected to it. Assumes nothing.
-use Rattle.std.proofs.Common.{◌≡◌, ℕ, suc, ◌+◌, ◌<◌, ◌≤◌, Bool, true, false, List, [], ◌∷◌, ◌++◌, map, length, get_or, take, drop, Some, None, Decides, Option, sym, refl, ap, ◌∙◌, subst, ⊎_elim, arith}
-use Rattle.std.proofs.lemmas.List.{drop_all, length-map, take-append-drop, take_more}
-use Rattle.std.proofs.lemmas.Bool.{cases_lt, both_ways}
+use Rattle.std.proofs.Common.{◌≡◌, ℕ, suc, ◌<◌, ◌≤◌, Bool, List, ◌++◌, take, drop, Some, None, Option, sym, refl, ap, ◌∙◌, subst, arith}
+use Rattle.std.proofs.lemmas.List.{take-append-drop}
 use Rattle.std.specs.List.{insert}
 use Rattle.rangemap.specs.declared.item.Item.{Item}
 use Rattle.ranges.specs.declared.range.any.AnyRange.{AnyRange}
 use Rattle.lawful.specs.declared.key.Key.{Ghosts}
 use Rattle.rangemap.specs.Ranges.{lo, hi}
-use Rattle.rangemap.specs.Items.{Free, span_at, span_of, spans}
-use Rattle.rangemap.specs.Ranges.{Connected, Full}
+use Rattle.rangemap.specs.Items.{Free, span_of, spans}
+use Rattle.rangemap.specs.Ranges.{Full}
 use Rattle.lawful.specs.Equals.{Equality}
-use Rattle.ledger.specs.Spans.{Span, held}
-use Rattle.rangemap.specs.Spans.{Same, Tight, From, Ends, put_made, Changed}
-use Rattle.rangemap.proofs.Held.{canonical_right, ends_last, ends_like, from_less, held_before, meets_apart}
-use Rattle.rangemap.proofs.Listed.{spans_at, spans_inserted}
+use Rattle.ledger.specs.Spans.{held}
+use Rattle.rangemap.specs.Spans.{Same, Tight, put_made, Changed}
+use Rattle.rangemap.proofs.Held.{canonical_right, ends_like, from_less, held_before, meets_apart}
+use Rattle.rangemap.proofs.Listed.{spans_inserted}
 use Rattle.rangemap.proofs.Put.{put_apart, same_at}
 use Rattle.rangemap.proofs.Rests.{alters_inside, rest_start, rest_made, rest_end}
-use Rattle.rangemap.proofs.Turns.{span_at_lem}
 
 -- The key stands alone: what is made of none is put, if it is a value.
 module _ {K V : Type 0} (g : Ghosts K) {eq : V → V → Bool} (laws : Equality eq) (key : AnyRange K) (full : Full g key) (m : Option V → Option V) (xs : List (Item K V)) (addr : ℕ) (canonical : Tight eq (spans g xs)) (free : Free g key xs addr) where

@@ -1,6 +1,6 @@
 -- A turn of the walk, over the items as the code has them.
-use Rattle.std.proofs.Common.{◌≡◌, ℕ, suc, ◌+◌, ◌-◌, ◌<◌, ◌≤◌, min, max, Bool, true, false, cond, ◌⊎◌, List, [], ◌∷◌, ◌++◌, map, length, get_or, take, drop, set, Some, None, MatchBool, Option, sym, refl, ap, ◌∙◌, subst, inl, inr, ⊎_elim, arith, MatchOption}
-use Rattle.std.proofs.lemmas.List.{get_or_at, get_or_default, get_or-map, length-map, map-set, take-set, drop-set}
+use Rattle.std.proofs.Common.{◌≡◌, ℕ, ◌+◌, ◌-◌, ◌<◌, ◌≤◌, min, max, Bool, true, false, cond, List, [], ◌∷◌, ◌++◌, length, get_or, take, drop, set, Some, None, MatchBool, Option, sym, ap, ◌∙◌, subst, ⊎_elim, arith, MatchOption}
+use Rattle.std.proofs.lemmas.List.{get_or_default, get_or-map, length-map, map-set, take-set, drop-set}
 use Rattle.std.proofs.lemmas.Bool.{cond-true, cond-false, cases_lt, cases_Bool}
 use Rattle.std.proofs.lemmas.Bool.Decides.{when_true, when_false}
 use Rattle.rangemap.specs.declared.item.Item.{Item}
@@ -14,7 +14,6 @@ use Rattle.rangemap.specs.Ranges.{After, Before, Connected, Cut, Full, Multiplie
 use Rattle.lawful.specs.Equals.{Equality}
 use Rattle.ledger.specs.Spans.{Span}
 use Rattle.rangemap.specs.Spans.{span, Tight, Ends, From, put_at, Changed, Walk, Turn}
-use Rattle.rangemap.proofs.Held.{canonical_right}
 use Rattle.rangemap.proofs.Parts.{before_object, before_none, after_object, after_none}
 use Rattle.rangemap.proofs.Walks.{walk_start, walk_reads, walk_full, walk_whole, walk_cut, turn_from, walk_back, last_full, last_order, last_ends, turn_clear, turn_joined, turn_split}
 

@@ -1,9 +1,9 @@
 -- The walk of `update`: the steps of a turn, and the walk's ends.
-use Rattle.std.proofs.Common.{◌≡◌, ℕ, ◌+◌, ◌<◌, ◌≤◌, Bool, true, false, List, [], ◌∷◌, ◌++◌, length, get_or, take, drop, Some, None, Option, sym, refl, ap, ◌∙◌, subst, arith}
+use Rattle.std.proofs.Common.{◌≡◌, ℕ, ◌+◌, ◌<◌, ◌≤◌, Bool, List, [], ◌∷◌, ◌++◌, length, get_or, take, drop, Some, None, Option, sym, refl, ap, ◌∙◌, subst, arith}
 use Rattle.lawful.specs.Equals.{Equality}
 use Rattle.ledger.specs.Spans.{Span, held}
-use Rattle.rangemap.specs.Spans.{span, Same, Leads, Tight, From, Ends, Meets, put, put_at, put_made, Alters, Rest, Changed, Turn}
-use Rattle.rangemap.proofs.Held.{held_at, held_high, held_low, held_before, from_less, leads_from, canonical_meets, canonical_right, meets_like, meets_apart, ends_like, ends_before}
+use Rattle.rangemap.specs.Spans.{span, Same, Tight, From, Ends, Meets, put, put_at, put_made, Rest, Changed, Turn}
+use Rattle.rangemap.proofs.Held.{held_at, held_high, held_before, canonical_meets, canonical_right, meets_like, meets_apart, ends_like, ends_before}
 use Rattle.rangemap.proofs.Put.{same_at, same_by, same_held, put_leads}
 use Rattle.rangemap.proofs.Rests.{alters_below, alters_inside, rest_drop, rest_skip, rest_put, rest_made, rest_end}
 use Rattle.rangemap.proofs.Walks.{was_is, last_order}

@@ -1,5 +1,5 @@
 -- The backward walk of the removal.
-use Rattle.std.proofs.Common.{◌≡◌, ℕ, suc, ◌+◌, ◌-◌, ◌<◌, ◌≤◌, min, max, ◌⊎◌, List, [], ◌∷◌, ◌++◌, length, get_or, take, drop, sym, refl, ap, ◌∙◌, subst, ap₂, inl, inr, arith}
+use Rattle.std.proofs.Common.{◌≡◌, ℕ, ◌+◌, ◌-◌, ◌<◌, ◌≤◌, min, max, ◌⊎◌, List, [], ◌∷◌, ◌++◌, length, get_or, take, drop, sym, refl, ap, ◌∙◌, subst, ap₂, inl, inr, arith}
 use Rattle.std.specs.List.{HoldsAt, AllByRecursion as All}
 use Rattle.std.proofs.lemmas.List.{append_assoc, length-append, length-map, length-take-le, take_more, drop_more, take_at, drop_at, get_or_at, get_or-take, get_or_default, take-append-drop}
 use Rattle.std.proofs.ByRecursion.{All-get_or, All-drop, All-take, All-weaker}

@@ -1,14 +1,14 @@
 -- Steps of the walkers.
-use Rattle.std.proofs.Common.{◌≡◌, ℕ, zero, suc, ◌+◌, ◌-◌, ◌<◌, ◌≤◌, Bool, true, false, cond, ltb, ◌⊎◌, List, [], ◌∷◌, ◌++◌, map, length, get_or, take, drop, vec_items, vec_len, sym, refl, ap, ◌∙◌, subst, inl, inr, arith}
+use Rattle.std.proofs.Common.{◌≡◌, ℕ, zero, suc, ◌+◌, ◌<◌, ◌≤◌, ltb, ◌⊎◌, List, [], ◌∷◌, ◌++◌, length, get_or, take, drop, vec_items, vec_len, sym, refl, ap, ◌∙◌, subst, inl, inr, arith}
 use Rattle.std.specs.List.{AllByRecursion as All}
 use Rattle.std.proofs.lemmas.List.{drop_all, drop_more, take_all, append_assoc, append-nil}
-use Rattle.std.proofs.ByRecursion.{All-get_or, All-weaker, All-drop}
+use Rattle.std.proofs.ByRecursion.{All-weaker, All-drop}
 use Rattle.std.proofs.lemmas.Bool.{cases_lt, lt-ltb, le-ltb, cond-true, cond-false, cond_both}
 use Rattle.ledger.proofs.Lists.{rises_from}
 use Rattle.ledger.specs.Spans.{Span, Gap, Rises}
 use Rattle.rangemap.specs.declared.item.Item.{Item}
 use Rattle.rangemap.specs.declared.map.RangeMap.{RangeMap}
-use Rattle.rangemap.specs.Items.{span_at, spans}
+use Rattle.rangemap.specs.Items.{spans}
 use Rattle.rangemap.specs.Maps.{stored, RisesIn, Ready}
 use Rattle.rangemap.specs.Search.{Last, Stands, Splits}
 use Rattle.rangemap.specs.Walks.{past, end, Moved, Stays}

@@ -1,6 +1,6 @@
 -- The turns of a backward walk.
-use Rattle.std.proofs.Common.{◌≡◌, ℕ, suc, ◌+◌, ◌-◌, ◌<◌, ◌≤◌, min, max, Bool, true, false, cond, List, [], ◌∷◌, ◌++◌, map, length, get_or, take, drop, set, Some, None, Option, sym, refl, ap, ◌∙◌, subst, add-one, arith}
-use Rattle.std.proofs.lemmas.List.{append_assoc, get_or_at, take-append-drop, take_at, drop_at, length-append, length-take-le, take_more, drop_more, set_at}
+use Rattle.std.proofs.Common.{◌≡◌, ℕ, ◌+◌, ◌<◌, ◌≤◌, Bool, true, List, [], ◌∷◌, ◌++◌, length, get_or, take, drop, Some, Option, sym, refl, ap, ◌∙◌, subst, arith}
+use Rattle.std.proofs.lemmas.List.{append_assoc, get_or_at, take-append-drop, take_at, drop_at, length-append, length-take-le, take_more, drop_more}
 use Rattle.lawful.specs.Equals.{Equality}
 use Rattle.ledger.specs.Spans.{Span}
 use Rattle.rangemap.specs.Spans.{span, Leads, Tight, From, Ends, put, put_at, Rest, Changed, Walk, Turn}

@@ -1,5 +1,5 @@
 -- What making a map does. Assumes nothing.
-use Rattle.std.specs.Prelude.{◌≡◌, ℕ, ◌<◌, ◌≤◌, [], Ok, Err, Result}
+use Rattle.std.specs.Prelude.{◌≡◌, ◌<◌, ◌≤◌, [], Ok, Err, Result}
 use Rattle.lawful.specs.declared.key.Key.{Ghosts}
 use Rattle.rangemap.specs.declared.decline.MakeDecline.{MakeDecline}
 use Rattle.rangemap.specs.declared.decline.MakeDecline.TheVariants.{SlotLimit}

@@ -1,4 +1,4 @@
-use Rattle.std.proofs.Common.{◌≡◌, ◌<◌, ◌≤◌, length, vec_items, refl, ◌∙◌, arith}
+use Rattle.std.proofs.Common.{◌<◌, length, vec_items, refl, ◌∙◌, arith}
 use Rattle.std.proofs.lemmas.Bool.{false≢true}
 use Rattle.rangemap.specs.Items.{span_at}
 use Rattle.rangemap.proofs.Walked.{walked_first, walked_on, walked_start, walked_done, walked_miss_read, walked_full}

@@ -1,4 +1,4 @@
-use Rattle.std.proofs.Common.{Some, None, sym, refl, ◌∙◌, rules}
+use Rattle.std.proofs.Common.{None, sym, refl, ◌∙◌, rules}
 use Rattle.std.proofs.lemmas.Bool.{leb-false}
 use Rattle.rangemap.proofs.Seeks.{free_some, free_none}
 use Rattle.rangemap.proofs.update.update.Goals as goal

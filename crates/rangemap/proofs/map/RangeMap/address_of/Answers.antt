@@ -1,6 +1,5 @@
-use Rattle.std.proofs.Common.{ℕ, List, subst}
+use Rattle.std.proofs.Common.{ℕ, subst}
 use Rattle.ranges.specs.Parts.{span as ends}
-use Rattle.rangemap.specs.declared.item.Item.{Item}
 use Rattle.rangemap.specs.Items.{spans}
 use Rattle.rangemap.specs.Search.{Index, Rising, Searched}
 use Rattle.rangemap.proofs.map.RangeMap.address_of.Goals as goal

@@ -1,4 +1,4 @@
-use Rattle.std.proofs.Common.{◌≡◌, ℕ, ◌+◌, subst, arith}
+use Rattle.std.proofs.Common.{◌≡◌, ℕ, subst, arith}
 use Rattle.rangemap.specs.Maps.{stored}
 use Rattle.rangemap.specs.Search.{Splits}
 use Rattle.rangemap.proofs.Looks.{len_listed}

@@ -1,7 +1,6 @@
-use Rattle.std.proofs.Common.{◌≡◌, ◌<◌, ◌≤◌, ◌⊎◌, sym, inl, inr, ⊎_elim, arith}
+use Rattle.std.proofs.Common.{◌≡◌, ◌<◌, ◌≤◌, ◌⊎◌, sym, inl, inr, arith}
 use Rattle.std.proofs.lemmas.Bool.{leb-true, leb-false}
 use Rattle.ranges.specs.Places.{low, high}
-use Rattle.ranges.specs.Parts.{span as ends}
 use Rattle.rangemap.proofs.Gapping.{looks_first, looks_found, looks_more, looks_last, looks_none}
 use Rattle.rangemap.proofs.map.RangeMap.gap_past.Goals as goal
 use Rattle.rangemap.proofs.map.RangeMap.gap_past.Goals.{else-not-is_empty-via-then-not-is_empty+else-place-end_place, else-not-is_empty-via-else-not-is_empty}
