@@ -2,7 +2,7 @@
 use Rattle.std.proofs.Common.{◌≡◌, ℕ, suc, ◌+◌, ◌<◌, ◌≤◌, Bool, true, List, [], ◌∷◌, length, take, drop, Ok, Err, Result, subst, inl, inr, arith, MatchResult}
 use Rattle.std.proofs.ByRecursion.{All-get_or}
 use Rattle.std.proofs.lemmas.List.{length-map}
-use Rattle.std.specs.List.{AllByRecursion as All}
+use Rattle.std.specs.List.{AllByRecursion}
 use Rattle.lawful.specs.declared.key.Key.{Ghosts}
 use Rattle.ranges.specs.declared.range.any.AnyRange.{AnyRange}
 use Rattle.ledger.specs.Spans.{Span, Rises}
@@ -22,7 +22,7 @@ module _ {V : Type 0} (eq : V → V → Bool) where
   rises_end from (x ∷ xs) starts tight =
       (starts, tight.0, rises_end x.high xs (leads_from eq x.high x.value xs tight.1) tight.2)
 
-  tight_full : (xs : List (Span V)) → Tight eq xs → All (λ x. x.low < x.high) xs
+  tight_full : (xs : List (Span V)) → Tight eq xs → AllByRecursion (λ x. x.low < x.high) xs
   tight_full [] tight = tt
   tight_full (x ∷ xs) tight = (tight.0, tight_full xs tight.2)
 
@@ -31,11 +31,11 @@ module _ {V : Type 0} (eq : V → V → Bool) where
   tight_rising xs tight = (end_of 0 xs, rises_end 0 xs (from_zero eq xs) tight)
 
 module _ {V : Type 0} where
-  all_from : (b c : ℕ) (xs : List (Span V)) → b ≤ c → All (λ x. c ≤ x.low) xs → From b xs
+  all_from : (b c : ℕ) (xs : List (Span V)) → b ≤ c → AllByRecursion (λ x. c ≤ x.low) xs → From b xs
   all_from b c [] le all = tt
   all_from b c (x ∷ xs) le all = omega (arith, all.0)
 
-  all_ends : (b : ℕ) (xs : List (Span V)) → All (λ x. x.high + 1 ≤ b) xs → Ends (λ e. e < b) xs
+  all_ends : (b : ℕ) (xs : List (Span V)) → AllByRecursion (λ x. x.high + 1 ≤ b) xs → Ends (λ e. e < b) xs
   all_ends b [] all = tt
   all_ends b (x ∷ xs) all = (omega (arith, all.0), all_ends b xs all.1)
 

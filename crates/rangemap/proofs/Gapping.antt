@@ -1,6 +1,6 @@
 -- Steps of the walker over the gaps.
 use Rattle.std.proofs.Common.{◌≡◌, ℕ, zero, suc, ◌+◌, ◌-◌, ◌<◌, ◌≤◌, ◌⊎◌, List, [], ◌∷◌, ◌++◌, get_or, take, drop, Some, None, vec_items, vec_len, sym, refl, ap, ◌∙◌, subst, inl, inr, arith}
-use Rattle.std.specs.List.{AllByRecursion as All}
+use Rattle.std.specs.List.{AllByRecursion}
 use Rattle.std.proofs.lemmas.List.{drop_all, take_more}
 use Rattle.std.proofs.lemmas.Bool.{cases_lt}
 use Rattle.ledger.specs.Spans.{Span, Gap, Rises, gap, gaps_from, gaps}
@@ -33,7 +33,7 @@ gap_first p low high gs l k = ap (past gap_end p) (gap_there low high gs l) ∙ 
 
 module _ {V : Type 0} where
   -- the gaps before spans that end at the place or earlier are passed over
-  pub gaps_skip : (p from count : ℕ) (xs : List (Span V)) (i : ℕ) → Rises from count xs → All (λ x. x.high ≤ p) (take i xs) →
+  pub gaps_skip : (p from count : ℕ) (xs : List (Span V)) (i : ℕ) → Rises from count xs → AllByRecursion (λ x. x.high ≤ p) (take i xs) →
       past gap_end p (gaps_from from count xs) ≡ past gap_end p (gaps_from (end_of from (take i xs)) count (drop i xs))
   gaps_skip p from count xs zero r a = refl
   gaps_skip p from count [] (suc i) r a = refl
@@ -113,7 +113,7 @@ module _ {K V : Type 0} (keys : Ghosts K) (m : RangeMap K V) (p l : ℕ) where
               let G = gaps keys.count (stored keys m) in
               let f = h y.1 in
               let n = past_next gap_end 0 p G (gap_of keys x) f.0 (climbs_gaps 0 keys.count G (gaps_rise 0 keys.count (stored keys m) y.1)) f.1 in
-              let b = subst (λ ys. All (λ x. x.high + 0 ≤ keys.count) ys) f.1
+              let b = subst (λ ys. AllByRecursion (λ x. x.high + 0 ≤ keys.count) ys) f.1
               (past_holds gap_end (λ x. x.high + 0 ≤ keys.count) p G (ends_earlier 0 keys.count 0 keys.count G (omega arith) (gaps_rise 0 keys.count (stored keys m) y.1))) in
               absurd (z (omega (arith, e, n.0)) (omega (arith, e, b.0, y.0)));
         }

@@ -1,6 +1,6 @@
 -- What a rising list holds at and around what the search found.
 use Rattle.std.proofs.Common.{◌≡◌, ℕ, zero, suc, ◌+◌, ◌-◌, ◌<◌, ◌≤◌, true, ◌⊎◌, List, [], ◌∷◌, length, get_or, take, drop, is_some, Some, None, refl, ap, ◌∙◌, subst, inl, inr, arith}
-use Rattle.std.specs.List.{AllByRecursion as All}
+use Rattle.std.specs.List.{AllByRecursion}
 use Rattle.std.proofs.lemmas.List.{take-append-drop}
 use Rattle.std.proofs.ByRecursion.{All-append, All-weaker}
 use Rattle.std.proofs.lemmas.Bool.{cases_lt}
@@ -21,14 +21,14 @@ module _ {V : Type 0} where
       held_out x xs p (inr (omega (arith, rises_from x.high _ (take i xs) q.front))) ∙ held_at x.high count xs i d k r.2 p a b
 
   -- a place that each span misses has no value
-  pub held_missed : (xs : List (Span V)) (p : ℕ) → All (λ x. (p < x.low) ⊎ (x.high ≤ p)) xs → held xs p ≡ None
+  pub held_missed : (xs : List (Span V)) (p : ℕ) → AllByRecursion (λ x. (p < x.low) ⊎ (x.high ≤ p)) xs → held xs p ≡ None
   held_missed [] p h = refl
   held_missed (x ∷ xs) p h = held_out x xs p h.0 ∙ held_missed xs p h.1
 
   -- a range that stands between the spans meets no value
   pub held_stands : (t low high : ℕ) (xs : List (Span V)) (i : ℕ) → Stands t low high xs i → (p : ℕ) → low ≤ p + t → p < high + t → held xs p ≡ None
   held_stands t low high xs i s p a b =
-      held_missed xs p (subst (λ ys. All (λ x. (p < x.low) ⊎ (x.high ≤ p)) ys) (take-append-drop i xs)
+      held_missed xs p (subst (λ ys. AllByRecursion (λ x. (p < x.low) ⊎ (x.high ≤ p)) ys) (take-append-drop i xs)
       (All-append _ (take i xs) (drop i xs)
       (All-weaker (λ x. x.high + t ≤ low) (λ x. (p < x.low) ⊎ (x.high ≤ p)) (λ x e. inr (omega arith)) (take i xs) s.earlier)
       (All-weaker (λ x. high + t ≤ x.low) (λ x. (p < x.low) ⊎ (x.high ≤ p)) (λ x e. inl (omega arith)) (drop i xs) s.later)))

@@ -1,6 +1,6 @@
 -- A span put between those of a canonical list, touching none.
 use Rattle.std.proofs.Common.{◌≡◌, ℕ, zero, suc, ◌+◌, ◌<◌, ◌≤◌, Bool, cond, ◌⊎◌, List, [], ◌∷◌, take, drop, Some, sym, refl, ap, ◌∙◌, inl, inr, arith}
-use Rattle.std.specs.List.{insert, AllByRecursion as All}
+use Rattle.std.specs.List.{insert, AllByRecursion}
 use Rattle.std.proofs.lemmas.Bool.{cond-false}
 use Rattle.ledger.specs.Ledger.{within}
 use Rattle.ledger.specs.Spans.{Span, held, Rises, Parted, AllParted, Canonical}
@@ -8,7 +8,7 @@ use Rattle.ledger.proofs.Lists.{within_out, within_cases, held_in, held_out}
 use Rattle.rangemap.specs.Search.{Stands}
 
 module _ {V : Type 0} (s : Span V) (count : ℕ) (full : s.low < s.high) (fits : s.high ≤ count) where
-  rises_put : (from : ℕ) (xs : List (Span V)) (i : ℕ) → from ≤ s.low → All (λ x. x.high + 1 ≤ s.low) (take i xs) → All (λ x. s.high + 1 ≤ x.low) (drop i xs) → Rises from count xs →
+  rises_put : (from : ℕ) (xs : List (Span V)) (i : ℕ) → from ≤ s.low → AllByRecursion (λ x. x.high + 1 ≤ s.low) (take i xs) → AllByRecursion (λ x. s.high + 1 ≤ x.low) (drop i xs) → Rises from count xs →
       Rises from count (insert xs i s)
   rises_put from [] zero f a b r = (f, full, fits)
   rises_put from [] (suc i) f a b r = (f, full, fits)
@@ -22,7 +22,7 @@ module _ {V : Type 0} (s : Span V) (count : ℕ) (full : s.low < s.high) (fits :
     parted_front x (y ∷ ys) zero a d = λ e. let z : ⊥ = omega arith in absurd z
     parted_front x (y ∷ ys) (suc i) a d = d
 
-    parted_put : (xs : List (Span V)) (i : ℕ) → All (λ x. x.high + 1 ≤ s.low) (take i xs) → All (λ x. s.high + 1 ≤ x.low) (drop i xs) → AllParted eq xs → AllParted eq (insert xs i s)
+    parted_put : (xs : List (Span V)) (i : ℕ) → AllByRecursion (λ x. x.high + 1 ≤ s.low) (take i xs) → AllByRecursion (λ x. s.high + 1 ≤ x.low) (drop i xs) → AllParted eq xs → AllParted eq (insert xs i s)
     parted_put [] zero a b d = (tt, tt)
     parted_put [] (suc i) a b d = (tt, tt)
     parted_put (x ∷ xs) zero a b d = (λ e. let z : ⊥ = omega (arith, b.0) in absurd z, d)
@@ -33,7 +33,7 @@ module _ {V : Type 0} (s : Span V) (count : ℕ) (full : s.low < s.high) (fits :
         record { rises = rises_put 0 xs i (omega arith) t.earlier t.later c.rises; parted = parted_put xs i t.earlier t.later c.parted }
 
   -- the places of the span hold its value, the others what they held
-  held_put : (xs : List (Span V)) (i : ℕ) → All (λ x. x.high + 1 ≤ s.low) (take i xs) → (p : ℕ) → held (insert xs i s) p ≡ cond (within s.low s.high p) (Some s.value) (held xs p)
+  held_put : (xs : List (Span V)) (i : ℕ) → AllByRecursion (λ x. x.high + 1 ≤ s.low) (take i xs) → (p : ℕ) → held (insert xs i s) p ≡ cond (within s.low s.high p) (Some s.value) (held xs p)
   held_put xs zero a p = refl
   held_put [] (suc i) a p = refl
   held_put (x ∷ xs) (suc i) a p = go (held_put xs i a.1 p) (within_cases x.low x.high p)

@@ -1,6 +1,6 @@
 -- Rising lists, taken apart at an index.
 use Rattle.std.proofs.Common.{◌≡◌, ℕ, zero, suc, ◌+◌, ◌<◌, ◌≤◌, ◌⊎◌, List, [], ◌∷◌, length, get_or, take, drop, sym, ap, ◌∙◌, subst, inl, inr, add-one, arith}
-use Rattle.std.specs.List.{HoldsAt, AllByRecursion as All}
+use Rattle.std.specs.List.{HoldsAt, AllByRecursion}
 use Rattle.std.proofs.lemmas.List.{get_or-map, length-map, drop_more, drop_all, nil_from_length}
 use Rattle.std.proofs.lemmas.Bool.{cases_lt}
 use Rattle.std.proofs.ByRecursion.{All-more}
@@ -21,7 +21,7 @@ pub span_read : {K V : Type 0} (keys : Ghosts K) (xs : List (Item K V)) (i : ℕ
 span_read keys xs i x l e = get_or-map (span_at keys) xs i x (span_at keys x) l ∙ ap (span_at keys) (sym e)
 
 -- two facts of each element make a third
-pub all_both : {X : Type 0} (P Q R : X → Type 0) → ((x : X) → P x → Q x → R x) → (xs : List X) → All P xs → All Q xs → All R xs
+pub all_both : {X : Type 0} (P Q R : X → Type 0) → ((x : X) → P x → Q x → R x) → (xs : List X) → AllByRecursion P xs → AllByRecursion Q xs → AllByRecursion R xs
 all_both P Q R f [] p q = tt
 all_both P Q R f (x ∷ xs) p q = (f x p.0 q.0, all_both P Q R f xs p.1 q.1)
 
@@ -44,26 +44,26 @@ module _ {V : Type 0} where
       Parts from count (get_or xs i d) (take i xs) (drop (i + 1) xs)
   parts from count xs i d l r = rw add-one (parts_suc from count xs i d l r)
 
-  pub starts_later : (b from count : ℕ) (xs : List (Span V)) → b ≤ from → Rises from count xs → All (λ x. b ≤ x.low) xs
+  pub starts_later : (b from count : ℕ) (xs : List (Span V)) → b ≤ from → Rises from count xs → AllByRecursion (λ x. b ≤ x.low) xs
   starts_later b from count [] l r = tt
   starts_later b from count (x ∷ xs) l r = (omega (arith, r.0), starts_later b x.high count xs (omega (arith, r.0, r.1)) r.2)
 
-  pub ends_earlier : (t b from count : ℕ) (xs : List (Span V)) → count + t ≤ b → Rises from count xs → All (λ x. x.high + t ≤ b) xs
+  pub ends_earlier : (t b from count : ℕ) (xs : List (Span V)) → count + t ≤ b → Rises from count xs → AllByRecursion (λ x. x.high + t ≤ b) xs
   ends_earlier t b from count [] l r = tt
   ends_earlier t b from count (x ∷ xs) l r =
       (omega (arith, rises_from x.high count xs r.2), ends_earlier t b x.high count xs l r.2)
 
-  pub ends_later : (b from count : ℕ) (xs : List (Span V)) → b ≤ from → Rises from count xs → All (λ x. b < x.high) xs
+  pub ends_later : (b from count : ℕ) (xs : List (Span V)) → b ≤ from → Rises from count xs → AllByRecursion (λ x. b < x.high) xs
   ends_later b from count [] l r = tt
   ends_later b from count (x ∷ xs) l r = (omega (arith, r.0, r.1), ends_later b x.high count xs (omega (arith, r.0, r.1)) r.2)
 
   -- each span of a rising list holds a place
-  pub all_full : (from count : ℕ) (xs : List (Span V)) → Rises from count xs → All (λ x. x.low < x.high) xs
+  pub all_full : (from count : ℕ) (xs : List (Span V)) → Rises from count xs → AllByRecursion (λ x. x.low < x.high) xs
   all_full from count [] r = tt
   all_full from count (x ∷ xs) r = (r.1, all_full x.high count xs r.2)
 
   -- in a rising list, each span up to that at i ends where that does, or earlier
-  pub all_earlier : (t b : ℕ) (xs : List (Span V)) (i : ℕ) → i < length xs → HoldsAt (λ x. x.high + t ≤ b) xs i → Rising xs → All (λ x. x.high + t ≤ b) (take (i + 1) xs)
+  pub all_earlier : (t b : ℕ) (xs : List (Span V)) (i : ℕ) → i < length xs → HoldsAt (λ x. x.high + t ≤ b) xs i → Rising xs → AllByRecursion (λ x. x.high + t ≤ b) (take (i + 1) xs)
   all_earlier t b [] i l h r = let z : ⊥ = omega arith in absurd z
   all_earlier t b (x ∷ xs) i l h (count, r) =
       let p = parts 0 count (x ∷ xs) i x l r in
@@ -71,7 +71,7 @@ module _ {V : Type 0} where
       All-more (λ x. x.high + t ≤ b) (x ∷ xs) i x l s (h x)
 
   -- in a rising list, each span from i on starts where that at i does, or later
-  pub all_later : (b : ℕ) (xs : List (Span V)) (i : ℕ) → i < length xs → HoldsAt (λ x. b ≤ x.low) xs i → Rising xs → All (λ x. b ≤ x.low) (drop i xs)
+  pub all_later : (b : ℕ) (xs : List (Span V)) (i : ℕ) → i < length xs → HoldsAt (λ x. b ≤ x.low) xs i → Rising xs → AllByRecursion (λ x. b ≤ x.low) (drop i xs)
   all_later b [] i l h r = let z : ⊥ = omega arith in absurd z
   all_later b (x ∷ xs) i l h (count, r) =
       let p = parts 0 count (x ∷ xs) i x l r in
@@ -96,23 +96,23 @@ module _ {K V : Type 0} (keys : Ghosts K) (b : ℕ) (xs : List (Item K V)) where
       record { here = at_span keys (λ y. y.low < b) xs 0 d l lt; later = λ r. rw (drop_all (length xs) (spans keys xs) (omega (arith, length-map xs (span_at keys)))) tt }
 
   -- in a rising list whose first span starts at b or later, each does
-  pub all_first : (d : Item K V) → 0 < length xs → b ≤ (ends keys (get_or xs 0 d).key).low → Rising (spans keys xs) → All (λ y. b ≤ y.low) (spans keys xs)
+  pub all_first : (d : Item K V) → 0 < length xs → b ≤ (ends keys (get_or xs 0 d).key).low → Rising (spans keys xs) → AllByRecursion (λ y. b ≤ y.low) (spans keys xs)
   all_first d l le = all_later b (spans keys xs) 0 (rw length-map l) (at_span keys (λ y. b ≤ y.low) xs 0 d l le)
 
-  pub all_none : length xs ≡ 0 → Rising (spans keys xs) → All (λ y. b ≤ y.low) (spans keys xs)
+  pub all_none : length xs ≡ 0 → Rising (spans keys xs) → AllByRecursion (λ y. b ≤ y.low) (spans keys xs)
   all_none e r = rw (nil_from_length xs e) tt
 
   -- what the search answers from the last span that starts before the end of the range
   pub last_found : (t low high i : ℕ) (d : Item K V) → b ≡ high + t → i < length xs → Bracket b (spans keys xs) i (i + 1) → Joins t low high (span_at keys (get_or xs i d)) → Rising (spans keys xs) →
       Last t low high (spans keys xs) i
-  last_found t low high i d e l h j r = record { here = at_span keys (Joins t low high) xs i d l j; later = subst (λ n. All (λ x. n ≤ x.low) (drop (i + 1) (spans keys xs))) e (h.later r) }
+  last_found t low high i d e l h j r = record { here = at_span keys (Joins t low high) xs i d l j; later = subst (λ n. AllByRecursion (λ x. n ≤ x.low) (drop (i + 1) (spans keys xs))) e (h.later r) }
 
   pub stands_found : (t low high i : ℕ) (d : Item K V) → b ≡ high + t → i < length xs → Bracket b (spans keys xs) i (i + 1) → (Joins t low high (span_at keys (get_or xs i d)) → ⊥) → Rising (spans keys xs) →
       Stands t low high (spans keys xs) (i + 1)
   stands_found t low high i d e l h j r =
       record {
         earlier = all_earlier t low (spans keys xs) i (rw length-map l) (at_span keys (λ x. x.high + t ≤ low) xs i d l (go (cases_lt low ((ends keys (get_or xs i d).key).high + t)))) r;
-        later = subst (λ n. All (λ x. n ≤ x.low) (drop (i + 1) (spans keys xs))) e (h.later r);
+        later = subst (λ n. AllByRecursion (λ x. n ≤ x.low) (drop (i + 1) (spans keys xs))) e (h.later r);
       }
     where
       go : (low < (ends keys (get_or xs i d).key).high + t) ⊎ ((ends keys (get_or xs i d).key).high + t ≤ low) → (ends keys (get_or xs i d).key).high + t ≤ low

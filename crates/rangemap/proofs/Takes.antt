@@ -1,6 +1,6 @@
 -- A list without the places of a range: what it holds, that it stays canonical, and where it is as before.
 use Rattle.std.proofs.Common.{◌≡◌, ℕ, ◌<◌, ◌≤◌, min, max, Bool, cond, ltb, ◌⊎◌, List, [], ◌∷◌, ◌++◌, Some, None, sym, refl, ap, ◌∙◌, subst, inl, inr, arith}
-use Rattle.std.specs.List.{AllByRecursion as All}
+use Rattle.std.specs.List.{AllByRecursion}
 use Rattle.std.proofs.lemmas.Bool.{cases_lt, cond-true, cond-false, cond_both, ltb-true, ltb-false}
 use Rattle.ledger.specs.Ledger.{within}
 use Rattle.ledger.specs.Spans.{Span, held, Rises, Parted, AllParted, Canonical}
@@ -31,7 +31,7 @@ module _ {V : Type 0} (low high : ℕ) where
       (ap (piece x.low (min x.high low) x.value) a ∙ piece-++ x.low (min x.high low) x.value _ (cut low high ys))
 
   -- spans that the range does not reach stay
-  pub cut_below : (xs : List (Span V)) → low < high → All (λ x. x.low < x.high) xs → All (λ x. x.high ≤ low) xs → cut low high xs ≡ xs
+  pub cut_below : (xs : List (Span V)) → low < high → AllByRecursion (λ x. x.low < x.high) xs → AllByRecursion (λ x. x.high ≤ low) xs → cut low high xs ≡ xs
   cut_below [] l f b = refl
   cut_below (x ∷ xs) l f b =
       let a : min x.high low ≡ x.high = omega (arith, b.0) in
@@ -39,7 +39,7 @@ module _ {V : Type 0} (low high : ℕ) where
       (piece_there x.low x.high x.value _ f.0 ∙
       ap (λ ys. x ∷ ys) (piece_not (max x.low high) x.high x.value (cut low high xs) (omega (arith, b.0)) ∙ cut_below xs l f.1 b.1))
 
-  pub cut_above : (xs : List (Span V)) → low < high → All (λ x. x.low < x.high) xs → All (λ x. high ≤ x.low) xs → cut low high xs ≡ xs
+  pub cut_above : (xs : List (Span V)) → low < high → AllByRecursion (λ x. x.low < x.high) xs → AllByRecursion (λ x. high ≤ x.low) xs → cut low high xs ≡ xs
   cut_above [] l f b = refl
   cut_above (x ∷ xs) l f b =
       let a : max x.low high ≡ x.low = omega (arith, b.0) in

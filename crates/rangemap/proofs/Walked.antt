@@ -1,6 +1,6 @@
 -- The backward walk of the removal.
 use Rattle.std.proofs.Common.{◌≡◌, ℕ, ◌+◌, ◌-◌, ◌<◌, ◌≤◌, min, max, ◌⊎◌, List, [], ◌∷◌, ◌++◌, length, get_or, take, drop, sym, refl, ap, ◌∙◌, subst, ap₂, inl, inr, arith}
-use Rattle.std.specs.List.{HoldsAt, AllByRecursion as All}
+use Rattle.std.specs.List.{HoldsAt, AllByRecursion}
 use Rattle.std.proofs.lemmas.List.{append_assoc, length-append, length-map, length-take-le, take_more, drop_more, take_at, drop_at, get_or_at, get_or-take, get_or_default, take-append-drop}
 use Rattle.std.proofs.ByRecursion.{All-get_or, All-drop, All-take, All-weaker}
 use Rattle.std.proofs.lemmas.Bool.{cases_lt}
@@ -35,7 +35,7 @@ module _ {V : Type 0} (low high : ℕ) (old xs : List (Span V)) (i : ℕ) (d : S
 
 -- where the spans before i end before the range, the cut is whole
 module _ {V : Type 0} (low high : ℕ) (lt : low < high) (old xs : List (Span V)) where
-  pub cutting_all : (i : ℕ) → Rising old → All (λ x. x.high ≤ low) (take i old) → Cutting low high old xs i → xs ≡ cut low high old
+  pub cutting_all : (i : ℕ) → Rising old → AllByRecursion (λ x. x.high ≤ low) (take i old) → Cutting low high old xs i → xs ≡ cut low high old
   cutting_all i (count, r) b c =
       c ∙ sym (ap (cut low high) (sym (take-append-drop i old)) ∙ (cut-++ low high (take i old) (drop i old) ∙
       ap (λ ys. ys ++ cut low high (drop i old)) (cut_below low high (take i old) lt (All-take (λ x. x.low < x.high) i old (all_full 0 count old r)) b)))
@@ -59,7 +59,7 @@ length_split low high x zs lt a b =
     omega (arith, m, n)
 
 module _ {K V : Type 0} (keys : Ghosts K) (low high : ℕ) (lt : low < high) (old : List (Item K V)) (from : ℕ) (within : from < length old) (found : Rising (spans keys old) → Last 0 low high (spans keys old) from) where
-  later : Rising (spans keys old) → All (λ x. high ≤ x.low) (drop (from + 1) (spans keys old))
+  later : Rising (spans keys old) → AllByRecursion (λ x. high ≤ x.low) (drop (from + 1) (spans keys old))
   later r = All-weaker (λ x. high + 0 ≤ x.low) (λ x. high ≤ x.low) (λ x e. omega arith) (drop (from + 1) (spans keys old)) (found r).later
 
   -- the cut leaves what stands behind the found span

@@ -1,6 +1,6 @@
 -- Steps of the walkers.
 use Rattle.std.proofs.Common.{◌≡◌, ℕ, zero, suc, ◌+◌, ◌<◌, ◌≤◌, ltb, ◌⊎◌, List, [], ◌∷◌, ◌++◌, length, get_or, take, drop, vec_items, vec_len, sym, refl, ap, ◌∙◌, subst, inl, inr, arith}
-use Rattle.std.specs.List.{AllByRecursion as All}
+use Rattle.std.specs.List.{AllByRecursion}
 use Rattle.std.proofs.lemmas.List.{drop_all, drop_more, take_all, append_assoc, append-nil}
 use Rattle.std.proofs.ByRecursion.{All-weaker, All-drop}
 use Rattle.std.proofs.lemmas.Bool.{cases_lt, lt-ltb, le-ltb, cond-true, cond-false, cond_both}
@@ -50,9 +50,9 @@ module _ {X : Type 0} (high : X → ℕ) where
           (i.0, past_out (high y) x xs (omega (arith, i.0)) ∙ i.1)
 
   -- what holds of each holds of each that is left
-  pub past_holds : (P : X → Type 0) (p : ℕ) (xs : List X) → All P xs → All P (past high p xs)
+  pub past_holds : (P : X → Type 0) (p : ℕ) (xs : List X) → AllByRecursion P xs → AllByRecursion P (past high p xs)
   past_holds P p [] a = tt
-  past_holds P p (x ∷ xs) a = cond_both (ltb p (high x)) (x ∷ xs) (past high p xs) (All P) (λ e. a) (λ e. past_holds P p xs a.1)
+  past_holds P p (x ∷ xs) a = cond_both (ltb p (high x)) (x ∷ xs) (past high p xs) (AllByRecursion P) (λ e. a) (λ e. past_holds P p xs a.1)
 
 pub climbs_spans : {K V : Type 0} (keys : Ghosts K) (from count : ℕ) (xs : List (Item K V)) → Rises from count (spans keys xs) → Climbs (end keys) from xs
 climbs_spans keys from count [] r = tt
@@ -89,7 +89,7 @@ module _ {V : Type 0} (count p : ℕ) (xs : List (Span V)) (r : Rises 0 count xs
           let x : Span V = get_or (y ∷ ys) i y in
           let h = f.here y in
           let e = ends_earlier 0 p 0 x.low (take i (y ∷ ys)) (omega (arith, h.0)) q.front in
-          let b : All (λ x. p < x.high) (x ∷ drop (i + 1) (y ∷ ys)) = (omega (arith, h.1), ends_later p x.high count (drop (i + 1) (y ∷ ys)) (omega (arith, h.1)) q.back) in
+          let b : AllByRecursion (λ x. p < x.high) (x ∷ drop (i + 1) (y ∷ ys)) = (omega (arith, h.1), ends_later p x.high count (drop (i + 1) (y ∷ ys)) (omega (arith, h.1)) q.back) in
           record {
             earlier = All-weaker (λ x. x.high + 0 ≤ p) (λ x. x.high ≤ p) (λ x e. omega arith) (take i (y ∷ ys)) e;
             later = rw (drop_more (y ∷ ys) i y l) b;
@@ -115,7 +115,7 @@ module _ {K V : Type 0} (keys : Ghosts K) (m : RangeMap K V) (p l i : ℕ) (s : 
     -- the range at i ends past the place, and at the last place or earlier
     in_reach : Ready keys m (p + l) → (p < (ends keys x.key).high) × ((ends keys x.key).high ≤ p + l)
     in_reach (t, r) =
-        let h = subst (λ ys. All (λ y. p < y.high) ys) (drop_listed keys m i x n e) (s r).later in
+        let h = subst (λ ys. AllByRecursion (λ y. p < y.high) ys) (drop_listed keys m i x n e) (s r).later in
         let q = parts_listed keys m i x n e r in
         (h.0, omega (arith, rises_from (ends keys x.key).high keys.count _ q.back))
 

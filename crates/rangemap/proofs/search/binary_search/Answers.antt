@@ -1,5 +1,5 @@
 use Rattle.std.proofs.Common.{◌≡◌, ℕ, ◌+◌, ◌-◌, ◌/◌, ◌<◌, ◌≤◌, length, sym, ◌∙◌, subst, arith}
-use Rattle.std.specs.List.{AllByRecursion as All}
+use Rattle.std.specs.List.{AllByRecursion}
 use Rattle.std.proofs.lemmas.Bool.{eqb-true, eqb-false, leb-true, leb-false}
 use Rattle.ranges.specs.Parts.{span as ends}
 use Rattle.rangemap.specs.Items.{spans}
@@ -13,7 +13,7 @@ pub returns-then-is_empty : goal.returns-then-is_empty
 returns-then-is_empty g c =
     let b : ℕ = (ends g.K.Key c.args.key).high + slack c.args.connected in
     let xs = c.args.items.now in
-    let f : Rising (spans g.K.Key xs) → All (λ x. b ≤ x.low) (spans g.K.Key xs) = elim c.then-is_empty.branch [
+    let f : Rising (spans g.K.Key xs) → AllByRecursion (λ x. b ≤ x.low) (spans g.K.Key xs) = elim c.then-is_empty.branch [
       | then-is_empty-via-then-is_empty w ↦ all_none g.K.Key b xs (eqb-true _ 0 (sym c.is_empty.ensures ∙ w.if-is_empty.true))
       | then-is_empty-via-else-is_empty+then-is_before w ↦
           let l : 0 < length xs = omega (arith, eqb-false (length xs) 0 (sym w.if-is_empty.ensures)) in
