@@ -123,9 +123,9 @@ impl Key for CalendarSecond {
 
     ghost place = { λ k. place_of k.day k.second };
 
-    ghost positive = { first_of (Prim.search rules, Prim.grind (arith, Self.row.coded.inj)) };
+    ghost positive = { Prim.search rules };
 
-    ghost small = { first_of (Prim.search rules, Prim.grind (arith, Self.row.coded.inj)) };
+    ghost small = { Prim.search rules };
 
     ghost within = { λ k. omega (arith, row_within seconds_in 47482 k.day k.second k.limits.0 k.limits.1, seconds_all) };
 

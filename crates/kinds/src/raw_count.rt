@@ -51,11 +51,11 @@ impl Key for RawCount {
 
     ghost place = { λ k. unsigned_abs (k.value +ℤ pos 8388608) };
 
-    ghost positive = { first_of (Prim.search rules, Prim.grind (arith, Self.row.coded.inj)) };
+    ghost positive = { Prim.search rules };
 
-    ghost small = { first_of (Prim.search rules, Prim.grind (arith, Self.row.coded.inj)) };
+    ghost small = { Prim.search rules };
 
-    ghost within = { first_of (Prim.search rules, Prim.grind (arith, Self.row.coded.inj)) };
+    ghost within = { Prim.search rules };
 
     ghost onto = { λ p h. (record { value = pos p -ℤ pos 8388608; limits = (omega (arith, ints), omega (arith, ints)) }, omega (arith, ints)) };
 

@@ -1,7 +1,7 @@
 // A response: its number, from 1 on, and its polarity.
 ghost use Rattle.std.specs.Prelude.{◌≡◌, ◌<◌, ◌&&◌, Decides, MatchResult, ◌==◌};
 ghost use Rattle.kinds.specs.Values.{same_polarity};
-ghost use Rattle.std.proofs.Common.{rules, arith};
+ghost use Rattle.std.proofs.Common.{rules};
 
 use crate::polarity::Polarity;
 use crate::refusal::KindRefusal;
@@ -41,7 +41,7 @@ impl Response {
 impl Value for Response {
     ghost equals = { λ a b. (a.number == b.number) && same_polarity a.polarity b.polarity };
 
-    ghost lawful = { first_of (Prim.search rules, Prim.grind (arith, Self.row.coded.inj)) };
+    ghost lawful = { Prim.search rules };
 
     // Equal exactly where both agree.
     fn equals(&self, other: &Response) -> bool

@@ -2,7 +2,7 @@
 ghost use Rattle.std.specs.Prelude.{◌≡◌, ◌<◌, ◌≤◌, MatchResult, refl};
 ghost use denote.Struct.Props.{props};
 ghost use Rattle.lawful.proofs.Sealed.{sealed_same};
-ghost use Rattle.std.proofs.Common.{rules, arith};
+ghost use Rattle.std.proofs.Common.{rules};
 
 use crate::refusal::KindRefusal;
 use lawful::Key;
@@ -36,11 +36,11 @@ impl Key for Sample {
 
     ghost place = { λ k. k.number };
 
-    ghost positive = { first_of (Prim.search rules, Prim.grind (arith, Self.row.coded.inj)) };
+    ghost positive = { Prim.search rules };
 
-    ghost small = { first_of (Prim.search rules, Prim.grind (arith, Self.row.coded.inj)) };
+    ghost small = { Prim.search rules };
 
-    ghost within = { first_of (Prim.search rules, Prim.grind (arith, Self.row.coded.inj)) };
+    ghost within = { Prim.search rules };
 
     ghost onto = { λ p h. (record { number = p; low = h }, refl) };
 

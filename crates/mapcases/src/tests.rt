@@ -1,7 +1,6 @@
 // Each test lists a map's ranges, or its gaps, by first and last key after some changes.
 use crate::label::Label;
 use kinds::RawCount;
-use lawful::Key;
 use rangemap::{Decline, RangeMap, Slots, all_gaps, all_ranges};
 use ranges::AnyRange;
 use std::alloc::Global;
