@@ -10,10 +10,7 @@ fn raw(value: i32) -> RawCount
     requires { (neg_ℤ (pos 8388608) ≤ℤ value) × (value ≤ℤ pos 8388607) }
     ensures { result.value ≡ value }
 {
-    match RawCount::new(value) {
-        Ok(count) => count,
-        Err(_) => unreachable(),
-    }
+    RawCount::try_from(value).unwrap()
 }
 
 // How many keys (4, 5), (4, 6), 8388607 excluded to Unbounded, 8388600.., 7..=3 and (4, 4) hold.

@@ -1,5 +1,6 @@
 -- The band table: which raw counts lie near the digitiser's rail. Assumes nothing.
-use Rattle.std.specs.Prelude.{ℕ, ◌+◌, Bool, cond, ◌&&◌, List, [], ◌∷◌, ℤ, pos, neg_ℤ, Some, None, Option, int_le}
+use Rattle.std.specs.Prelude.{ℕ, Bool, ◌&&◌, List, [], ◌∷◌, ℤ, pos, neg_ℤ, Option, int_le, count_by, option_map}
+use Rattle.std.specs.List.{find}
 use Rattle.kinds.specs.declared.band.Band.{Band}
 use Rattle.kinds.specs.declared.band.Band.TheVariants.{Usable, NearRail, Rail}
 use Rattle.kinds.specs.declared.band.BandRow.{BandRow}
@@ -22,10 +23,8 @@ holds r count = int_le r.first count && int_le count r.last
 
 -- the band of the first row that holds a count
 abbrev pub band_in : List BandRow → ℤ → Option Band
-band_in [] count = None
-band_in (r ∷ rows) count = cond (holds r count) (Some r.band) (band_in rows count)
+band_in rows count = option_map (λ r. r.band) (find (λ r. holds r count) rows)
 
 -- how many rows hold a count
 abbrev pub rows_with : List BandRow → ℤ → ℕ
-rows_with [] count = 0
-rows_with (r ∷ rows) count = cond (holds r count) 1 0 + rows_with rows count
+rows_with rows count = count_by (λ r. holds r count) rows

@@ -1,5 +1,9 @@
 -- Rows of any lengths: each place is one of one row. Assumes nothing.
 use Rattle.std.specs.Prelude.{◌≡◌, ℕ, zero, suc, ◌+◌, ◌-◌, ◌<◌, ◌≤◌}
+use Rattle.std.specs.declared.cmp.Ordering.{Ordering}
+use Rattle.std.specs.declared.cmp.Ordering.TheVariants.{Less, Equal, Greater}
+use Rattle.std.specs.Ordering.{ordering_then, nat_cmp, MatchOrdering}
+use Rattle.std.specs.Cmp.{nat_cmp_is, ranks}
 use Rattle.std.proofs.Math.Path.{refl}
 use Rattle.std.proofs.Common.{ap}
 use Rattle.std.proofs.Math.Logic.{inl, inr}
@@ -39,6 +43,25 @@ module _ (size : ℕ → ℕ) where
         | inr (inl less) ↦ absurd (omega (arith, row_within j i s less h))
         | inr (inr more) ↦ absurd (omega (arith, row_within i j t more k))
       ]
+
+  -- one place is at one place of one row
+  pub row_place_same : (i j s t : ℕ) → s < size i → t < size j → before size i + s ≡ before size j + t → ◌≡◌ {A = ℕ × ℕ} (i, s) (j, t)
+  row_place_same i j s t h k e =
+      let rows : i ≡ j = row_same i j s t h k e in
+      let inner : s ≡ t = omega (arith, ap (before size) rows) in
+      λ z. (rows z, inner z)
+
+  -- places lie as their rows do, and in one row as they stand in it
+  pub row_order : (i j s t : ℕ) → s < size i → t < size j → ordering_then (nat_cmp i j) (nat_cmp s t) ≡ nat_cmp (before size i + s) (before size j + t)
+  row_order i j s t h k = nat_cmp_is (before size i + s) (before size j + t) (ordering_then (nat_cmp i j) (nat_cmp s t)) (go (nat_cmp i j) (nat_cmp s t) (ranks i j) (ranks s t))
+    where
+      go : (q r : Ordering) → MatchOrdering q (i < j) (i ≡ j) (j < i) → MatchOrdering r (s < t) (s ≡ t) (t < s) →
+          MatchOrdering (ordering_then q r) (before size i + s < before size j + t) (before size i + s ≡ before size j + t) (before size j + t < before size i + s)
+      go Less r p m = omega (arith, row_within j i s p h)
+      go Greater r p m = omega (arith, row_within i j t p k)
+      go Equal Less p m = omega (arith, ap (before size) p)
+      go Equal Equal p m = omega (arith, ap (before size) p)
+      go Equal Greater p m = omega (arith, ap (before size) p)
 
   pub row_onto : (n p : ℕ) → p < before size n → Row size n p
   unfolding before

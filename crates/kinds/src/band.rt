@@ -1,12 +1,11 @@
 // How near the rail a raw count lies.
-ghost use Rattle.std.specs.Prelude.{◌≡◌, ◌<◌, ◌⊎◌, MatchResult, ◌==◌};
+ghost use Rattle.std.specs.Prelude.{◌≡◌, ◌<◌, ◌⊎◌, ◌↔◌, IsTrue, MatchResult};
 ghost use Rattle.kinds.specs.Values.{band_number};
-ghost use Rattle.std.proofs.Common.{rules};
+ghost use Rattle.kinds.specs.declared.refusal.KindRefusal.TheVariants.{BadKey};
 
 use crate::refusal::KindRefusal;
-use lawful::Value;
 
-#[derive(Clone, Copy)]
+#[derive(Clone, Copy, PartialEq, Eq)]
 pub enum Band {
     Usable,
     NearRail,
@@ -21,11 +20,16 @@ pub struct BandRow {
     pub band: Band,
 }
 
-impl Band {
-    // From its number, 1 to 3.
-    pub fn new(number: u16) -> Result<Band, KindRefusal>
-        ensures { MatchResult result (λ b. band_number b ≡ number) (λ e. (e ≡ KindRefusal.BadKey) × ((number ≡ 0) ⊎ (3 < number))) }
-    {
+// From its number, 1 to 3.
+impl TryFrom<u16> for Band {
+    type Error = KindRefusal;
+
+    ghost try_from_gives = { λ number r.
+        MatchResult r
+        (λ b. band_number b ≡ number)
+        (λ e. (e ≡ BadKey) × ((number ≡ 0) ⊎ (3 < number))) };
+
+    fn try_from(number: u16) -> Result<Band, KindRefusal> {
         match number {
             1 => Ok(Band::Usable),
             2 => Ok(Band::NearRail),
@@ -33,11 +37,13 @@ impl Band {
             _ => Err(KindRefusal::BadKey),
         }
     }
+}
 
-    pub fn number(&self) -> u16
-        ensures { result ≡ band_number self.now }
-    {
-        match self {
+impl From<Band> for u16 {
+    ghost from_gives = { λ b number. number ≡ band_number b };
+
+    fn from(band: Band) -> u16 {
+        match band {
             Band::Usable => 1,
             Band::NearRail => 2,
             Band::Rail => 3,
@@ -45,12 +51,12 @@ impl Band {
     }
 }
 
-impl Value for Band {
-    ghost equals = { λ a b. (band_number a == band_number b) };
-
-    ghost lawful = { Prim.search rules };
-
-    fn equals(&self, other: &Band) -> bool {
-        self.number() == other.number()
+impl Band {
+    // What `==` answers: whether the numbers are the same.
+    pub fn equals(&self, other: &Band) -> bool
+        ensures derived { result ≡ ⟦<Band as PartialEq>⟧.eq self.now other.now }
+        ensures numbers { IsTrue result ↔ (band_number self.now ≡ band_number other.now) }
+    {
+        self == other
     }
 }

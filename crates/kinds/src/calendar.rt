@@ -1,20 +1,22 @@
 // A second of the calendar from 1970 to 2099.
 ghost use Rattle.std.specs.Prelude.{◌≡◌, ℕ, ◌+◌, ◌-◌, ◌*◌, ◌<◌, ◌≤◌, MatchResult};
-ghost use Rattle.std.proofs.Common.{ap, arith, rules};
-ghost use Rattle.kinds.specs.Calendar.{days_in, days_to, day_of, seconds_in, seconds_of_minute, second_of, place_of, Dated};
+ghost use Rattle.std.proofs.Common.{arith, rules};
+ghost use Rattle.kinds.specs.Calendar.{seconds_in, day_of, second_of, place_of, Dated};
 ghost use Rattle.kinds.specs.Rows.{before};
-ghost use Rattle.kinds.specs.RowsLemmas.{row_within, row_onto, row_same};
+ghost use Rattle.kinds.specs.RowsLemmas.{row_within, row_order, row_onto, row_place_same};
 ghost use Rattle.kinds.specs.Dates.{seconds_all};
+ghost use Rattle.kinds.specs.declared.refusal.KindRefusal.TheVariants.{BadKey};
 ghost use denote.Struct.Props.{props};
 ghost use Rattle.lawful.proofs.Sealed.{sealed_same};
 
+use crate::date::{Date, seconds_in};
 use crate::refusal::KindRefusal;
 use lawful::Key;
 
 // how many days there are from 1970 to 2099
 const DAYS: u32 = 47482;
 
-#[derive(Clone, Copy)]
+#[derive(Clone, Copy, PartialEq, Eq, PartialOrd, Ord)]
 pub struct CalendarSecond {
     // counted from 0 at day 1 of 1970
     day: u32,
@@ -34,32 +36,6 @@ impl CalendarSecond {
         Ok(CalendarSecond { day, second })
     }
 
-    // From the year, the day of the year from 1 on, and the time of day.
-    pub fn from_date(
-        year: u16,
-        day: u16,
-        hour: u8,
-        minute: u8,
-        second: u8,
-    ) -> Result<CalendarSecond, KindRefusal>
-        ensures { MatchResult result (λ k. Dated year day hour minute second × (k.day ≡ day_of year day) × (k.second ≡ second_of hour minute second)) (λ e. (e ≡ KindRefusal.BadKey) × (Dated year day hour minute second → ⊥)) }
-    {
-        if year < 1970 || year > 2099 || hour > 23 || minute > 59 {
-            return Err(KindRefusal::BadKey);
-        }
-        if day < 1 || day > days_in(year) {
-            return Err(KindRefusal::BadKey);
-        }
-        let number = days_to(year) + (day - 1) as u32;
-        if second as u32 >= seconds_of_minute(number, hour, minute) {
-            return Err(KindRefusal::BadKey);
-        }
-        Ok(CalendarSecond {
-            day: number,
-            second: hour as u32 * 3600 + minute as u32 * 60 + second as u32,
-        })
-    }
-
     pub fn day(&self) -> u32
         ensures { result ≡ self.now.day }
     {
@@ -73,21 +49,24 @@ impl CalendarSecond {
     }
 }
 
-fn seconds_in(_day: u32) -> u32
-    ensures { result ≡ seconds_in _day }
-{
-    86400
-}
+// From the year, the day of the year from 1 on, and the time of day.
+impl TryFrom<Date> for CalendarSecond {
+    type Error = KindRefusal;
 
-// The last minute of a day has the seconds that the others leave.
-fn seconds_of_minute(day: u32, hour: u8, minute: u8) -> u32
-    requires { (hour < 24) × (minute < 60) }
-    ensures { result ≡ seconds_of_minute day hour minute }
-{
-    if hour == 23 && minute == 59 {
-        return seconds_in(day) - 86340;
+    ghost try_from_gives = { λ date r.
+        MatchResult r
+        (λ k. Dated date × (k.day ≡ day_of date) × (k.second ≡ second_of date))
+        (λ e. (e ≡ BadKey) × ¬ Dated date) };
+
+    fn try_from(date: Date) -> Result<CalendarSecond, KindRefusal> {
+        if !date.is_dated() {
+            return Err(KindRefusal::BadKey);
+        }
+        Ok(CalendarSecond {
+            day: date.day_number(),
+            second: date.second_of_day(),
+        })
     }
-    60
 }
 
 // The place of a day's first second.
@@ -95,33 +74,17 @@ fn start_of(day: u32) -> u64
     ensures value { result ≡ before seconds_in day }
     ensures even { result ≡ 86400 * day }
 {
-    day as u64 * 86400
-}
-
-fn days_in(year: u16) -> u16
-    ensures { result ≡ days_in year }
-{
-    if year % 4 == 0 && year % 100 != 0 || year % 400 == 0 {
-        366
-    } else {
-        365
-    }
-}
-
-// The days from day 1 of 1970 to day 1 of the year: until 2099 a leap year comes every four years.
-fn days_to(year: u16) -> u32
-    requires { (1970 ≤ year) × (year ≤ 2099) }
-    ensures value { result ≡ days_to year }
-    ensures room { result + days_in year ≤ 47482 }
-{
-    let n = (year - 1970) as u32;
-    365 * n + (n + 1) / 4
+    u64::from(day) * 86400
 }
 
 impl Key for CalendarSecond {
-    ghost count = { 4102444800 };
+    const COUNT: u64 = 4102444800;
+
+    ghost COUNT = { 4102444800 };
 
     ghost place = { λ k. place_of k.day k.second };
+
+    ghost ordered = { λ a b. row_order seconds_in a.day b.day a.second b.second a.limits.1 b.limits.1 };
 
     ghost positive = { Prim.search rules };
 
@@ -134,21 +97,15 @@ impl Key for CalendarSecond {
         (record { day = r.row; second = r.inner; limits = (r.row_below, r.inner_below) }, r.is) };
 
     ghost injective = { λ a b e.
-        let days : a.day ≡ b.day = row_same seconds_in a.day b.day a.second b.second a.limits.1 b.limits.1 e in
-        let seconds : a.second ≡ b.second = omega (arith, ap (before seconds_in) days) in
         sealed_same {P = λ (x : ℕ × ℕ). (x.0 < 47482) × (x.1 < seconds_in x.0)} (λ x h. record { day = x.0; second = x.1; limits = h })
-        (λ x. Prim.hlevel props) a.limits b.limits (λ i. (days i, seconds i)) };
-
-    fn count() -> u64 {
-        4102444800
-    }
+        (λ x. Prim.hlevel props) a.limits b.limits (row_place_same seconds_in a.day b.day a.second b.second a.limits.1 b.limits.1 e) };
 
     fn place(&self) -> u64 {
-        start_of(self.day) + self.second as u64
+        start_of(self.day) + u64::from(self.second)
     }
 
     fn at(p: u64) -> Option<CalendarSecond> {
-        if p >= 4102444800 {
+        if p >= CalendarSecond::COUNT {
             return None;
         }
         let day = (p / 86400) as u32;

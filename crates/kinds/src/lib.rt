@@ -3,6 +3,7 @@
 
 mod band;
 mod calendar;
+mod date;
 mod instant;
 mod polarity;
 mod raw_count;
@@ -13,6 +14,7 @@ mod table;
 
 pub use band::{Band, BandRow};
 pub use calendar::CalendarSecond;
+pub use date::Date;
 pub use instant::Instant;
 pub use polarity::Polarity;
 pub use raw_count::RawCount;

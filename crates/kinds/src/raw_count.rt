@@ -1,6 +1,7 @@
 // A digitiser's raw count: a signed number of 24 bits.
 ghost use Rattle.std.specs.Prelude.{◌≡◌, ◌⊎◌, pos, negsuc, ◌+ℤ◌, ◌-ℤ◌, ◌≤ℤ◌, ◌<ℤ◌, MatchResult, unsigned_abs};
 ghost use Rattle.kinds.specs.RawCount.{from_bytes};
+ghost use Rattle.kinds.specs.declared.refusal.KindRefusal.TheVariants.{BadKey};
 ghost use Rattle.std.proofs.Common.{arith, rules};
 ghost use Rattle.std.proofs.lemmas.Int.{ints};
 ghost use denote.Struct.Props.{props};
@@ -9,36 +10,43 @@ ghost use Rattle.lawful.proofs.Sealed.{sealed_same};
 use crate::refusal::KindRefusal;
 use lawful::Key;
 
-#[derive(Clone, Copy)]
+#[derive(Clone, Copy, PartialEq, Eq, PartialOrd, Ord)]
 pub struct RawCount {
     value: i32,
     ghost limits: { (negsuc 8388607 ≤ℤ value) × (value ≤ℤ pos 8388607) },
 }
 
-impl RawCount {
-    pub fn new(value: i32) -> Result<RawCount, KindRefusal>
-        ensures { MatchResult result (λ k. k.value ≡ value) (λ e. (e ≡ KindRefusal.BadKey) × ((value <ℤ negsuc 8388607) ⊎ (pos 8388607 <ℤ value))) }
-    {
-        if value < -8388608 || value > 8388607 {
-            Err(KindRefusal::BadKey)
-        } else {
+impl TryFrom<i32> for RawCount {
+    type Error = KindRefusal;
+
+    ghost try_from_gives = { λ value r.
+        MatchResult r
+        (λ k. k.value ≡ value)
+        (λ e. (e ≡ BadKey) × ((value <ℤ negsuc 8388607) ⊎ (pos 8388607 <ℤ value))) };
+
+    fn try_from(value: i32) -> Result<RawCount, KindRefusal> {
+        if (-8388608..=8388607).contains(&value) {
             Ok(RawCount { value })
+        } else {
+            Err(KindRefusal::BadKey)
         }
     }
+}
 
-    // From three bytes, most significant first, in two's complement.
-    pub fn from_bytes(bytes: [u8; 3]) -> RawCount
-        ensures { result.value ≡ from_bytes bytes }
-    {
-        let n = (bytes[0] as i32) * 65536 + (bytes[1] as i32) * 256 + bytes[2] as i32;
-        if bytes[0] < 128 {
-            return RawCount { value: n };
-        }
+// From three bytes, most significant first, in two's complement.
+impl From<[u8; 3]> for RawCount {
+    ghost from_gives = { λ bytes k. k.value ≡ from_bytes bytes };
+
+    fn from(bytes: [u8; 3]) -> RawCount {
+        // the sign's byte stands before the three
+        let sign = if bytes[0] < 128 { 0x00 } else { 0xFF };
         RawCount {
-            value: n - 16777216,
+            value: i32::from_be_bytes([sign, bytes[0], bytes[1], bytes[2]]),
         }
     }
+}
 
+impl RawCount {
     pub fn value(&self) -> i32
         ensures { result ≡ self.now.value }
     {
@@ -47,9 +55,13 @@ impl RawCount {
 }
 
 impl Key for RawCount {
-    ghost count = { 16777216 };
+    const COUNT: u64 = 16777216;
+
+    ghost COUNT = { 16777216 };
 
     ghost place = { λ k. unsigned_abs (k.value +ℤ pos 8388608) };
+
+    ghost ordered = { Prim.search rules };
 
     ghost positive = { Prim.search rules };
 
@@ -61,16 +73,12 @@ impl Key for RawCount {
 
     ghost injective = { λ a b e. sealed_same (λ z h. record { value = z; limits = h }) (λ z. Prim.hlevel props) a.limits b.limits (omega (arith, ints)) };
 
-    fn count() -> u64 {
-        16777216
-    }
-
     fn place(&self) -> u64 {
         (self.value + 8388608) as u64
     }
 
     fn at(p: u64) -> Option<RawCount> {
-        if p < 16777216 {
+        if p < RawCount::COUNT {
             Some(RawCount {
                 value: p as i32 - 8388608,
             })

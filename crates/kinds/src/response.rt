@@ -1,13 +1,10 @@
 // A response: its number, from 1 on, and its polarity.
-ghost use Rattle.std.specs.Prelude.{◌≡◌, ◌<◌, ◌&&◌, Decides, MatchResult, ◌==◌};
-ghost use Rattle.kinds.specs.Values.{same_polarity};
-ghost use Rattle.std.proofs.Common.{rules};
+ghost use Rattle.std.specs.Prelude.{◌≡◌, ◌<◌, ◌↔◌, IsTrue, MatchResult};
 
 use crate::polarity::Polarity;
 use crate::refusal::KindRefusal;
-use lawful::Value;
 
-#[derive(Clone, Copy)]
+#[derive(Clone, Copy, PartialEq, Eq)]
 pub struct Response {
     number: u16,
     polarity: Polarity,
@@ -36,21 +33,12 @@ impl Response {
     {
         self.polarity
     }
-}
 
-impl Value for Response {
-    ghost equals = { λ a b. (a.number == b.number) && same_polarity a.polarity b.polarity };
-
-    ghost lawful = { Prim.search rules };
-
-    // Equal exactly where both agree.
-    fn equals(&self, other: &Response) -> bool
-        ensures { (result ≡ (self.now.number == other.now.number && same_polarity self.now.polarity other.now.polarity)) × (Decides result ((self.now.number ≡ other.now.number) × (self.now.polarity ≡ other.now.polarity))) }
+    // What `==` answers: whether number and polarity agree.
+    pub fn equals(&self, other: &Response) -> bool
+        ensures derived { result ≡ ⟦<Response as PartialEq>⟧.eq self.now other.now }
+        ensures fields { IsTrue result ↔ ((self.now.number ≡ other.now.number) × (self.now.polarity ≡ other.now.polarity)) }
     {
-        self.number == other.number
-            && matches!(
-                (self.polarity, other.polarity),
-                (Polarity::Normal, Polarity::Normal) | (Polarity::Reversed, Polarity::Reversed)
-            )
+        self == other
     }
 }

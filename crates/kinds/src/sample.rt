@@ -1,5 +1,6 @@
 // The sample within a second, 0 to 199.
 ghost use Rattle.std.specs.Prelude.{◌≡◌, ◌<◌, ◌≤◌, MatchResult, refl};
+ghost use Rattle.kinds.specs.declared.refusal.KindRefusal.TheVariants.{BadKey};
 ghost use denote.Struct.Props.{props};
 ghost use Rattle.lawful.proofs.Sealed.{sealed_same};
 ghost use Rattle.std.proofs.Common.{rules};
@@ -7,23 +8,32 @@ ghost use Rattle.std.proofs.Common.{rules};
 use crate::refusal::KindRefusal;
 use lawful::Key;
 
-#[derive(Clone, Copy)]
+// A type of its own beside `RawCount`: one type for both would take the integer, its limits and the
+// first key's value as parameters, and each integer would still need its own way to a place.
+#[derive(Clone, Copy, PartialEq, Eq, PartialOrd, Ord)]
 pub struct Sample {
     number: u8,
     ghost low: { number < 200 },
 }
 
-impl Sample {
-    pub fn new(number: u8) -> Result<Sample, KindRefusal>
-        ensures { MatchResult result (λ k. k.number ≡ number) (λ e. (e ≡ KindRefusal.BadKey) × (200 ≤ number)) }
-    {
+impl TryFrom<u8> for Sample {
+    type Error = KindRefusal;
+
+    ghost try_from_gives = { λ number r.
+        MatchResult r
+        (λ k. k.number ≡ number)
+        (λ e. (e ≡ BadKey) × (200 ≤ number)) };
+
+    fn try_from(number: u8) -> Result<Sample, KindRefusal> {
         if number < 200 {
             Ok(Sample { number })
         } else {
             Err(KindRefusal::BadKey)
         }
     }
+}
 
+impl Sample {
     pub fn number(&self) -> u8
         ensures { result ≡ self.now.number }
     {
@@ -32,9 +42,13 @@ impl Sample {
 }
 
 impl Key for Sample {
-    ghost count = { 200 };
+    const COUNT: u64 = 200;
+
+    ghost COUNT = { 200 };
 
     ghost place = { λ k. k.number };
+
+    ghost ordered = { Prim.search rules };
 
     ghost positive = { Prim.search rules };
 
@@ -46,16 +60,12 @@ impl Key for Sample {
 
     ghost injective = { λ a b e. sealed_same (λ n h. record { number = n; low = h }) (λ n. Prim.hlevel props) a.low b.low e };
 
-    fn count() -> u64 {
-        200
-    }
-
     fn place(&self) -> u64 {
-        self.number as u64
+        u64::from(self.number)
     }
 
     fn at(p: u64) -> Option<Sample> {
-        if p < 200 {
+        if p < Sample::COUNT {
             Some(Sample { number: p as u8 })
         } else {
             None

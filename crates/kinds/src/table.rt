@@ -52,12 +52,7 @@ impl BandRow {
 fn band_in(rows: &[BandRow], count: &RawCount) -> Option<Band>
     ensures { result ≡ band_in rows.now count.now.value }
 {
-    for row in rows {
-        if row.holds(count) {
-            return Some(row.band);
-        }
-    }
-    None
+    rows.iter().find(|row| row.holds(count)).map(|row| row.band)
 }
 
 // The band of the one row of the constant table that holds the count.
@@ -65,8 +60,5 @@ pub fn band_of(count: &RawCount) -> Band
     ensures found { band_in band_table count.now.value ≡ Some result }
     ensures alone { rows_with band_table count.now.value ≡ 1 }
 {
-    match band_in(&band_table(), count) {
-        Some(band) => band,
-        None => unreachable(),
-    }
+    band_in(&band_table(), count).unwrap()
 }

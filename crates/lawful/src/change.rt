@@ -1,4 +1,4 @@
-// A change turns a value or none into a value or none.
+// A change turns a value or none into a value or none. A trait, and no closure, since it owes a law: equal values get equal answers.
 ghost use Rattle.std.specs.Prelude.{◌≡◌, true, Option};
 ghost use Rattle.lawful.specs.Equals.{same};
 
@@ -10,7 +10,7 @@ pub trait Change<V: Value> {
 
     // To equal values, and to none, it gives equal answers every time; which of equal values is free.
     fn apply(&self, value: Option<V>) -> Option<V>
-        ensures { (a : Option V) → same V.Value.equals value a ≡ true → same V.Value.equals result (makes self.now a) ≡ true };
+        ensures { (a : Option V) → same V.eq value a ≡ true → same V.eq result (makes self.now a) ≡ true };
 
-    ghost respects: { (c : Self) (a b : Option V) → same V.Value.equals a b ≡ true → same V.Value.equals (makes c a) (makes c b) ≡ true };
+    ghost respects: { (c : Self) (a b : Option V) → same V.eq a b ≡ true → same V.eq (makes c a) (makes c b) ≡ true };
 }

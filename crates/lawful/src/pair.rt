@@ -1,68 +1,77 @@
 // Pairs of two kinds: place = first place * second count + second place.
 ghost use Rattle.std.specs.Prelude.{◌≡◌, ℕ, ◌+◌, ◌*◌, ◌/◌, ◌%◌, ◌^◌, ◌<◌, ◌≤◌};
+ghost use Rattle.std.specs.Ordering.{ordering_then};
 ghost use Rattle.std.proofs.Common.{ap, ◌∙◌, rules};
-ghost use Rattle.lawful.specs.Grid.{grid_positive, grid_within, grid_row, grid_same_row, grid_same_column};
+ghost use Rattle.lawful.specs.Grid.{grid_positive, grid_within, grid_row, grid_same_row, grid_same_column, grid_order};
 ghost use Rattle.std.proofs.lemmas.Nat.{mod_below, div-add-mod'};
 
 use crate::key::Key;
 
 // What makes a pair a key: the first kind names the second, and states the pair's count as its own.
 pub trait PairWith<B: Key>: Key {
-    ghost paired: { ℕ };
+    // The count of the pair.
+    const PAIR_COUNT: u64;
+
+    ghost PAIR_COUNT: { ℕ };
 
     // The count of the pair, which is the product of the two kinds' counts, and at most 2^40.
     fn paired() -> u64
-        ensures { (result ≡ paired) × (result ≡ Self.Key.count * B.Key.count) × (result ≤ 2 ^ 40) };
+        ensures { (result ≡ PAIR_COUNT) × (result ≡ Self.COUNT * B.COUNT) × (result ≤ 2 ^ 40) }
+    {
+        Self::PAIR_COUNT
+    }
 
-    ghost product: { paired ≡ Self.Key.count * B.Key.count };
+    ghost product: { PAIR_COUNT ≡ Self.COUNT * B.COUNT };
 
-    ghost fits: { paired ≤ 2 ^ 40 };
+    ghost fits: { PAIR_COUNT ≤ 2 ^ 40 };
 }
 
-#[derive(Clone, Copy)]
+#[derive(Clone, Copy, PartialEq, Eq, PartialOrd, Ord)]
 pub struct Pair<A, B> {
     pub first: A,
     pub second: B,
 }
 
 impl<A: PairWith<B>, B: Key> Key for Pair<A, B> {
-    ghost count = { A.Key.count * B.Key.count };
+    const COUNT: u64 = A::PAIR_COUNT;
 
-    ghost place = { λ k. A.Key.place k.first * B.Key.count + B.Key.place k.second };
+    ghost COUNT = { A.COUNT * B.COUNT };
 
-    ghost positive = { grid_positive A.Key.count B.Key.count A.Key.positive B.Key.positive };
+    ghost place = { λ k. A.place k.first * B.COUNT + B.place k.second };
+
+    ghost ordered = { λ a b.
+        (λ i. ordering_then (A.ordered a.first b.first i) (B.ordered a.second b.second i))
+        ∙ grid_order B.COUNT (A.place a.first) (B.place a.second) (A.place b.first) (B.place b.second) (B.within a.second) (B.within b.second) };
+
+    ghost positive = { grid_positive A.COUNT B.COUNT A.positive B.positive };
 
     ghost small = { Prim.search rules };
 
     ghost within = { λ k.
-        grid_within A.Key.count B.Key.count (A.Key.place k.first) (B.Key.place k.second)
-        (A.Key.within k.first) (B.Key.within k.second) };
+        grid_within A.COUNT B.COUNT (A.place k.first) (B.place k.second)
+        (A.within k.first) (B.within k.second) };
 
     ghost onto = { λ p h.
-        let m = A.Key.count in
-        let n = B.Key.count in
-        let a = A.Key.onto (p / n) (grid_row m n p B.Key.positive h) in
-        let b = B.Key.onto (p % n) (mod_below p n B.Key.positive) in
-        (record { first = a.0; second = b.0 }, ap (λ x. x * n + B.Key.place b.0) a.1 ∙ ap (λ y. p / n * n + y) b.1 ∙ div-add-mod' p n) };
+        let m = A.COUNT in
+        let n = B.COUNT in
+        let a = A.onto (p / n) (grid_row m n p B.positive h) in
+        let b = B.onto (p % n) (mod_below p n B.positive) in
+        (record { first = a.0; second = b.0 }, ap (λ x. x * n + B.place b.0) a.1 ∙ ap (λ y. p / n * n + y) b.1 ∙ div-add-mod' p n) };
 
     ghost injective = { λ a b e.
-        let n = B.Key.count in
-        let h = B.Key.within a.second in
-        let k = B.Key.within b.second in
-        let x = A.Key.injective a.first b.first (grid_same_row n (A.Key.place a.first) (B.Key.place a.second) (A.Key.place b.first) (B.Key.place b.second) h k e) in
-        let y = B.Key.injective a.second b.second (grid_same_column n (A.Key.place a.first) (B.Key.place a.second) (A.Key.place b.first) (B.Key.place b.second) h k e) in
+        let n = B.COUNT in
+        let h = B.within a.second in
+        let k = B.within b.second in
+        let x = A.injective a.first b.first (grid_same_row n (A.place a.first) (B.place a.second) (A.place b.first) (B.place b.second) h k e) in
+        let y = B.injective a.second b.second (grid_same_column n (A.place a.first) (B.place a.second) (A.place b.first) (B.place b.second) h k e) in
         λ i. record { first = x i; second = y i } };
 
-    fn count() -> u64 {
-        A::paired()
-    }
-
     fn place(&self) -> u64 {
-        self.first.place() * B::count() + self.second.place()
+        self.first.place() * B::COUNT + self.second.place()
     }
 
     fn at(p: u64) -> Option<Pair<A, B>> {
-        let (row, column) = row_and_column(p, B::count());
+        let (row, column) = row_and_column(p, B::COUNT);
         let first = A::at(row)?;
         let second = B::at(column)?;
         Some(Pair { first, second })

@@ -1,12 +1,4 @@
-// What a kind of values is: it has an equality of its own, and promises speak of no other.
-ghost use Rattle.std.specs.Prelude.{◌≡◌, Bool};
-ghost use Rattle.lawful.specs.Equals.{Equality};
+// What a kind of values is: it has an equality, and promises speak of no other.
+pub trait Value: Copy + Drop + Eq + Sized {}
 
-pub trait Value: Copy + Drop + Sized {
-    ghost equals: { Self → Self → Bool };
-
-    fn equals(&self, other: &Self) -> bool
-        ensures { result ≡ equals self.now other.now };
-
-    ghost lawful: { Equality equals };
-}
+impl<T: Copy + Drop + Eq + Sized> Value for T {}

@@ -1,12 +1,13 @@
 -- The size of what is held goes by what is held, up to equal values. Assumes nothing.
 use Rattle.std.proofs.Common.{◌≡◌, ℕ, zero, suc, ◌<◌, Bool, true, cond, Some, None, Option, refl, ap, arith}
 use Rattle.std.proofs.lemmas.Bool.{false≢true}
-use Rattle.lawful.specs.Equals.{Equality, same}
+use Rattle.std.specs.Cmp.{IsEquivalence}
+use Rattle.lawful.specs.Equals.{same}
 use Rattle.ledger.specs.Values.{Held, SameBelow, before, begins, size}
 use Rattle.lawful.specs.EqualsLemmas.{eq_cong}
 use Rattle.ledger.proofs.Sums.{sum_eq}
 
-module _ {V : Type 0} (eq : V → V → Bool) (law : Equality eq) where
+module _ {V : Type 0} (eq : V → V → Bool) (law : IsEquivalence eq) where
   pub begins_same : (a b c d : Option V) → same eq a b ≡ true → same eq c d ≡ true → begins eq a c ≡ begins eq b d
   begins_same None None None None p q = refl
   begins_same None None None (Some d) p q = absurd (false≢true q)

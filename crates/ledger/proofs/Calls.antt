@@ -1,7 +1,8 @@
 -- What a call's own proof shows, and the step that it makes.
 use Rattle.std.proofs.Common.{◌≡◌, ℕ, ◌<◌, ◌≤◌, Bool, true, false, cond, ◌&&◌, leb, ◌⊎◌, List, [], ◌∷◌, ◌++◌, length, is_some, None, Option, sym, refl, ap, ◌∙◌, subst, inl, inr, arith}
 use Rattle.std.proofs.lemmas.Bool.{cases_Bool, cond-true, cond-false, le-leb, lt-leb, and_from, and_parts, false≢true}
-use Rattle.lawful.specs.Equals.{Equality, same}
+use Rattle.std.specs.Cmp.{IsEquivalence}
+use Rattle.lawful.specs.Equals.{same}
 use Rattle.ledger.specs.Values.{Held, SameBelow, size}
 use Rattle.ledger.specs.Ledger.{Call, insert_disconnected, get, intersects, list, Answer, ranges, declined, said, found, nothing, Alike, alike_ranges, alike_declined, alike_said, alike_found, alike_nothing, Proper, within, reaches, changed, Ledger, Outcome, accept, decline, offer, meets, outcome}
 use Rattle.ledger.specs.Spans.{Span, held, Canonical}
@@ -27,7 +28,7 @@ meets_no count h t n = go (cases_Bool (meets count h t))
         absurd (false≢true (sym (ap is_some (n w.0 w.1 b.0)) ∙ b.1))
     go (inr e) = e
 
-module _ {V : Type 0} (eq : V → V → Bool) (law : Equality eq) (count slots : ℕ) (xs : List (Span V)) where
+module _ {V : Type 0} (eq : V → V → Bool) (law : IsEquivalence eq) (count slots : ℕ) (xs : List (Span V)) where
   abbrev pub book : Ledger V
   book = record { slots = slots; held = held xs }
 
@@ -96,6 +97,6 @@ run_more eq count slots [] e us xs ys r q s = (ys, q, subst (λ (zs : List (Span
 run_more eq count slots (d ∷ es) e us xs ys r q s = (r.0, r.1, r.2, run_more eq count slots es e r.0 xs ys r.3 q s)
 
 -- so a call whose contract is a link keeps the promise, whatever led to it
-pub link_keeps : {V : Type 0} (eq : V → V → Bool) → Equality eq → (count slots : ℕ) (xs : List (Span V)) (e : Event V) (ys : List (Span V)) →
+pub link_keeps : {V : Type 0} (eq : V → V → Bool) → IsEquivalence eq → (count slots : ℕ) (xs : List (Span V)) (e : Event V) (ys : List (Span V)) →
     Proper eq count e.call → Link eq count slots xs e ys → Keeps eq count slots xs e ys
 link_keeps eq law count slots xs e ys q s es r = every_run_keeps_lem eq law count slots (es ++ (e ∷ [])) ys (run_more eq count slots es e [] xs ys r q s)

@@ -1,13 +1,14 @@
 -- Canonical lists that hold the same are matched span by span.
 use Rattle.std.proofs.Common.{◌≡◌, ℕ, ◌<◌, ◌≤◌, Bool, true, ◌⊎◌, List, [], ◌∷◌, Some, None, Option, sym, refl, ◌∙◌, subst₂, inl, inr, arith}
 use Rattle.std.proofs.lemmas.Bool.{cases_lt, false≢true, true≢false}
-use Rattle.lawful.specs.Equals.{Equality, same}
+use Rattle.std.specs.Cmp.{IsEquivalence}
+use Rattle.lawful.specs.Equals.{same}
 use Rattle.ledger.specs.Values.{SameBelow}
 use Rattle.ledger.specs.Spans.{Span, held, Parted, Rises, AllParted, Canonical, Matched}
 use Rattle.ledger.proofs.Lists.{held_in, held_out, held_early, held_late, behind}
 use Rattle.lawful.specs.EqualsLemmas.{same_sym}
 
-module _ {V : Type 0} (eq : V → V → Bool) (law : Equality eq) where
+module _ {V : Type 0} (eq : V → V → Bool) (law : IsEquivalence eq) where
   -- `same` at what two places are known to hold
   same_at : (a b c d : Option V) → a ≡ c → b ≡ d → same eq a b ≡ true → same eq c d ≡ true
   same_at a b c d e f h = subst₂ (λ (u v : Option V). same eq u v ≡ true) e f h
@@ -30,7 +31,7 @@ module _ {V : Type 0} (eq : V → V → Bool) (law : Equality eq) where
       clash : (o : Option V) → held xs x.high ≡ o → same eq o (Some y.value) ≡ true → eq x.value y.value ≡ true → ⊥
       clash None h k v = false≢true k
       clash (Some w) h k v =
-          true≢false (sym (law.transitive x.value y.value w v (law.symmetric y.value w ∙ k)) ∙ behind eq law count x xs r d w h)
+          true≢false (sym (law.congr x.value y.value w v ∙ (law.symm y.value w ∙ k)) ∙ behind eq law count x xs r d w h)
 
       go : (x.high < y.high) ⊎ (y.high ≤ x.high) → y.high ≤ x.high
       go (inl l) =

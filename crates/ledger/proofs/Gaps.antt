@@ -1,7 +1,8 @@
 -- The ranges and the gaps of a rising list part the places.
 use Rattle.std.proofs.Common.{◌≡◌, ℕ, suc, ◌<◌, ◌≤◌, Bool, true, ◌⊎◌, List, [], ◌∷◌, length, Some, None, Option, sym, refl, ap, ◌∙◌, subst, inl, inr, arith}
 use Rattle.std.proofs.lemmas.Bool.{cases_lt, lt-ltb, le-ltb, cond-true, cond-false, false≢true}
-use Rattle.lawful.specs.Equals.{Equality, same}
+use Rattle.std.specs.Cmp.{IsEquivalence}
+use Rattle.lawful.specs.Equals.{same}
 use Rattle.ledger.specs.Spans.{Span, Gap, bearing, held, Rises, gap, gaps_from}
 use Rattle.ledger.specs.Promise.{Listed, Apart}
 use Rattle.ledger.proofs.Lists.{within_in, within_out, within_cases, held_in, held_out, held_early, rises_lower}
@@ -71,12 +72,12 @@ module _ {V : Type 0} where
   gaps_apart from count (x ∷ xs) r =
       gap_apart from x.low x.high count (gaps_from x.high count xs) r.1 (gaps_rise x.high count xs r.2) (gaps_apart x.high count xs r.2)
 
-module _ {V : Type 0} (eq : V → V → Bool) (law : Equality eq) where
+module _ {V : Type 0} (eq : V → V → Bool) (law : IsEquivalence eq) where
   listed_none : (o : Option V) (vs : List V) (n : ℕ) → o ≡ None → vs ≡ [] → n ≡ 1 → Listed eq o vs n
   listed_none o vs n e f g = subst (λ (o : Option V). Listed eq o vs n) (sym e) (f, g)
 
   listed_some : (o : Option V) (vs : List V) (n : ℕ) (v : V) → o ≡ Some v → vs ≡ v ∷ [] → n ≡ 0 → Listed eq o vs n
-  listed_some o vs n v e f g = subst (λ (o : Option V). Listed eq o vs n) (sym e) (v, f, law.reflexive v, g)
+  listed_some o vs n v e f g = subst (λ (o : Option V). Listed eq o vs n) (sym e) (v, f, law.refl v, g)
 
   -- each place from the start on lies in one range or one gap
   pub listed_rises : (from count : ℕ) (xs : List (Span V)) → Rises from count xs → (p : ℕ) → from ≤ p → p < count →
@@ -112,4 +113,4 @@ module _ {V : Type 0} (eq : V → V → Bool) (law : Equality eq) where
   listed_same None None vs n e l = l
   listed_same None (Some b) vs n e l = absurd (false≢true e)
   listed_same (Some a) None vs n e l = absurd (false≢true e)
-  listed_same (Some a) (Some b) vs n e l = (l.0, l.1, law.transitive b a l.0 (law.symmetric b a ∙ e) l.2, l.3)
+  listed_same (Some a) (Some b) vs n e l = (l.0, l.1, law.congr b a l.0 (law.symm b a ∙ e) ∙ l.2, l.3)

@@ -1,7 +1,7 @@
 -- Lists of spans: the length of a canonical list is the size of what it holds, and no list that holds the same is shorter.
+use Rattle.std.specs.Cmp.{IsEquivalence}
 use Rattle.std.proofs.Common.{◌≡◌, ℕ, zero, suc, ◌+◌, ◌<◌, ◌≤◌, Bool, true, false, cond, ltb, leb, ◌⊎◌, List, [], ◌∷◌, length, Some, None, Option, sym, refl, ap, ◌∙◌, subst, ap₂, inl, inr, arith}
 use Rattle.std.proofs.lemmas.Bool.{cases_lt, le-leb, lt-leb, lt-ltb, le-ltb, and_from, and_left, and_right, cond-true, cond-false}
-use Rattle.lawful.specs.Equals.{Equality}
 use Rattle.ledger.specs.Values.{Held, SameBelow, before, begins, size, sum_below}
 use Rattle.ledger.specs.Ledger.{within}
 use Rattle.ledger.specs.Spans.{Span, bearing, held, Parted, Rises, AllParted, Canonical}
@@ -78,7 +78,7 @@ record Put {V : Type 0} (n : ℕ) (h k : Held V) (low high : ℕ) (v : V) : Type
   cleared : (p : ℕ) → p < n → low ≤ p → p < high → k p ≡ None
   outside : (p : ℕ) → p < n → (p < low) ⊎ (high ≤ p) → h p ≡ k p
 
-module _ {V : Type 0} (eq : V → V → Bool) (law : Equality eq) where
+module _ {V : Type 0} (eq : V → V → Bool) (law : IsEquivalence eq) where
   pub begins_none : (a : Option V) → begins eq a None ≡ 0
   begins_none None = refl
   begins_none (Some a) = refl
@@ -97,7 +97,7 @@ module _ {V : Type 0} (eq : V → V → Bool) (law : Equality eq) where
   begins_one a (Some b) = begins_le a (Some b)
 
   begins_like : (v : V) → begins eq (Some v) (Some v) ≡ 0
-  begins_like v = ap (λ t. cond t 0 1) (law.reflexive v)
+  begins_like v = ap (λ t. cond t 0 1) (law.refl v)
 
   module _ (n : ℕ) (h k : Held V) (low high : ℕ) (v : V) (put : Put n h k low high v) where
     -- away from the range, and in it but for its start, a range begins in h only where one begins in k

@@ -1,7 +1,7 @@
 -- Every run from the empty list keeps the promise.
+use Rattle.std.specs.Cmp.{IsEquivalence}
 use Rattle.std.proofs.Common.{◌≡◌, ℕ, suc, ◌+◌, ◌-◌, ◌*◌, ◌<◌, ◌≤◌, Bool, true, false, cond, ◌&&◌, List, [], ◌∷◌, ◌++◌, length, None, sym, refl, ap, ◌∙◌, subst, arith}
 use mathlib.Core.Path.{fun_ext}
-use Rattle.lawful.specs.Equals.{Equality}
 use Rattle.ledger.specs.Values.{Held, SameBelow}
 use Rattle.ledger.specs.Ledger.{declined, Alike, Proper, covers, effect, changed, outcome}
 use Rattle.ledger.specs.Spans.{Span, held, Canonical}
@@ -13,7 +13,7 @@ use Rattle.ledger.proofs.Turns.{turns, turns_none, size_few}
 use Rattle.ledger.proofs.Gaps.{gaps_rise, gaps_apart, listed_rises, listed_same}
 use Rattle.ledger.proofs.Steps.{alike_trans, alike_accepted, alike_declines, same_below_trans, changed_same, outcome_like, outcome_moved, outcome_fulls, changed_turns}
 
-module _ {V : Type 0} (eq : V → V → Bool) (law : Equality eq) (count slots : ℕ) where
+module _ {V : Type 0} (eq : V → V → Bool) (law : IsEquivalence eq) (count slots : ℕ) where
   -- what an event makes of what is held
   abbrev moved : Event V → Held V → Held V
   moved e h p = cond (accepted e.answer && covers e.call p) (effect e.call (h p)) (h p)
@@ -124,5 +124,5 @@ module _ {V : Type 0} (eq : V → V → Bool) (law : Equality eq) (count slots :
             let a = full_late earlier e s.0 s.1 f s.3 (s.4 f.canonical) d in omega arith;
       }
 
-pub every_run_keeps_lem : {V : Type 0} (eq : V → V → Bool) → Equality eq → EveryRunKeeps eq
+pub every_run_keeps_lem : {V : Type 0} (eq : V → V → Bool) → IsEquivalence eq → EveryRunKeeps eq
 every_run_keeps_lem eq law count slots es xs r = keeps eq law count slots es xs r

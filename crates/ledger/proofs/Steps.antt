@@ -1,7 +1,8 @@
 -- One call: ledgers that hold the same answer alike and then hold the same; and what a call makes of the turns.
 use Rattle.std.proofs.Common.{◌≡◌, ℕ, ◌+◌, ◌<◌, ◌≤◌, Bool, true, false, cond, ◌&&◌, leb, Some, None, Option, sym, refl, ap, ◌∙◌, subst, arith}
 use Rattle.std.proofs.lemmas.Bool.{false≢true, true≢false, cond-true, cond-false, cond_both, leb-true, leb-false}
-use Rattle.lawful.specs.Equals.{Equality, same}
+use Rattle.std.specs.Cmp.{IsEquivalence}
+use Rattle.lawful.specs.Equals.{same}
 use Rattle.ledger.specs.Values.{Held, SameBelow, size}
 use Rattle.ledger.specs.Ledger.{Call, insert, insert_disconnected, update, remove, get, intersects, list, Answer, ranges, declined, said, found, nothing, Alike, alike_ranges, alike_declined, alike_said, alike_found, alike_nothing, Proper, within, reaches, covers, effect, changed, Ledger, Outcome, accept, decline, offer, meets, outcome}
 use Rattle.ledger.specs.Promise.{accepted}
@@ -16,7 +17,7 @@ pub record Like {V : Type 0} (eq : V → V → Bool) (count : ℕ) (o u : Outcom
   pub answers : Alike eq o.answer u.answer
   pub holds : SameBelow eq count o.held u.held
 
-module _ {V : Type 0} (eq : V → V → Bool) (law : Equality eq) where
+module _ {V : Type 0} (eq : V → V → Bool) (law : IsEquivalence eq) where
   pub alike_refl : (a : Answer V) → Alike eq a a
   alike_refl (ranges n) = alike_ranges
   alike_refl (declined n) = alike_declined
@@ -49,8 +50,8 @@ module _ {V : Type 0} (eq : V → V → Bool) (law : Equality eq) where
   alike_declines n alike_nothing e = e
 
   pub effect_same : (count : ℕ) (c : Call V) → Proper eq count c → (a b : Option V) → same eq a b ≡ true → same eq (effect c a) (effect c b) ≡ true
-  effect_same count (insert low high v) l a b e = law.reflexive v
-  effect_same count (insert_disconnected low high v) l a b e = law.reflexive v
+  effect_same count (insert low high v) l a b e = law.refl v
+  effect_same count (insert_disconnected low high v) l a b e = law.refl v
   effect_same count (update low high f) l a b e = l.1 a b e
   effect_same count (remove low high) l a b e = refl
   effect_same count (get q) l a b e = e
@@ -61,7 +62,7 @@ module _ {V : Type 0} (eq : V → V → Bool) (law : Equality eq) where
   cond_same true a b c d e f = e
   cond_same false a b c d e f = f
 
-module _ {V : Type 0} (eq : V → V → Bool) (law : Equality eq) (count : ℕ) where
+module _ {V : Type 0} (eq : V → V → Bool) (law : IsEquivalence eq) (count : ℕ) where
   pub same_below_trans : (h k l : Held V) → SameBelow eq count h k → SameBelow eq count k l → SameBelow eq count h l
   same_below_trans h k l e f p i = same_trans eq law (h p) (k p) (l p) (e p i) (f p i)
 

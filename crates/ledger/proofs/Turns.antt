@@ -2,7 +2,8 @@
 -- A change of one range adds at most two, and of the turns at least one begins no range.
 use Rattle.std.proofs.Common.{◌≡◌, ℕ, zero, suc, ◌+◌, ◌-◌, ◌*◌, ◌<◌, ◌≤◌, Bool, true, false, cond, ◌⊎◌, Some, None, Option, sym, refl, ap, ◌∙◌, ap₂, inl, inr, arith}
 use Rattle.std.proofs.lemmas.Bool.{cases_Bool}
-use Rattle.lawful.specs.Equals.{Equality, same}
+use Rattle.std.specs.Cmp.{IsEquivalence}
+use Rattle.lawful.specs.Equals.{same}
 use Rattle.ledger.specs.Values.{Held, before, begins, size, sum_below}
 use Rattle.ledger.proofs.Sums.{sum_le, sum_add, sum_at_le, sum_at_none, at, at_here}
 use Rattle.ledger.proofs.Lists.{within_cases}
@@ -29,7 +30,7 @@ pub record Made {V : Type 0} (n : ℕ) (h k : Held V) (low high : ℕ) (f : Opti
   pub inside : (p : ℕ) → p < n → low ≤ p → p < high → h p ≡ f (k p)
   pub outside : (p : ℕ) → p < n → (p < low) ⊎ (high ≤ p) → h p ≡ k p
 
-module _ {V : Type 0} (eq : V → V → Bool) (law : Equality eq) where
+module _ {V : Type 0} (eq : V → V → Bool) (law : IsEquivalence eq) where
   turn_le : (a b : Option V) → turn eq a b ≤ 1
   turn_le a b = bit (same eq a b)
 

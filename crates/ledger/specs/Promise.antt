@@ -28,7 +28,7 @@ pub record Step {V : Type 0} (eq : V → V → Bool) (count slots : ℕ) (xs : L
   pub answers : Alike eq e.answer (outcome eq count (record { slots = slots; held = held xs }) e.call).answer
   pub holds : SameBelow eq count (held ys) (outcome eq count (record { slots = slots; held = held xs }) e.call).held
 
--- what the contract of a call says of the lists before and after it
+-- what a call does to the lists before and after it, where the one before is canonical
 abbrev pub Link : {V : Type 0} → (V → V → Bool) → ℕ → ℕ → List (Span V) → Event V → List (Span V) → Type 0
 Link eq count slots xs e ys = Canonical eq count xs → Step eq count slots xs e ys
 

@@ -8,15 +8,11 @@ ghost use Rattle.ledger.specs.Promise.{EveryRunKeeps};
 use lawful::Value;
 
 // A canonical list is the only one of its kind, the shortest, and as long as the size of what it holds.
-pub fn canon<V: Value>() -> u8
-    ensures { (count : ℕ) → Canon V.Value.equals count }
-{
-    0
-}
+pub fn canon<V: Value>()
+    ensures { (count : ℕ) → Canon V.eq count }
+{}
 
 // Every list of calls, from the empty list on, keeps the promise.
-pub fn every_run_keeps<V: Value>() -> u8
-    ensures { EveryRunKeeps V.Value.equals }
-{
-    0
-}
+pub fn every_run_keeps<V: Value>()
+    ensures { EveryRunKeeps V.eq }
+{}

@@ -14,41 +14,31 @@ const B: Label = Label { number: 2 };
 // a..b
 fn range(a: i32, b: i32) -> Result<AnyRange<RawCount>, Fail> {
     Ok(AnyRange::new(
-        Bound::Included(RawCount::new(a)?),
-        Bound::Excluded(RawCount::new(b)?),
+        Bound::Included(RawCount::try_from(a)?),
+        Bound::Excluded(RawCount::try_from(b)?),
     ))
 }
 
 fn map(heap: Global, slots: usize) -> Result<RangeMap<RawCount, Label>, Fail> {
     let mut map = RangeMap::without_slots(heap)?;
-    match map.make(Slots::new(heap, slots)?) {
-        Ok(_) => Ok(map),
-        Err(_) => Err(Fail::new("more slots than a map can have")),
-    }
+    map.make(Slots::new(heap, slots)?)
+        .map_err(|_| Fail::new("more slots than a map can have"))?;
+    Ok(map)
 }
 
 // What a change answered: how many ranges are stored, or the decline's number with 1,000 added.
 fn answer(res: Result<usize, Decline>) -> usize {
-    match res {
-        Ok(count) => count,
-        Err(decline) => 1000 + decline.number() as usize,
-    }
+    res.unwrap_or_else(|why| 1000 + usize::from(u8::from(why)))
 }
 
 // The same of insert_disconnected, which hands range and value back.
 fn placed(res: Result<usize, (Decline, (AnyRange<RawCount>, Label))>) -> usize {
-    match res {
-        Ok(count) => count,
-        Err(back) => 1000 + back.0.number() as usize,
-    }
+    answer(res.map_err(|back| back.0))
 }
 
 // A key's raw count; no raw count where there is no key.
 fn value(key: Option<RawCount>) -> i32 {
-    match key {
-        Some(count) => count.value(),
-        None => i32::MIN,
-    }
+    key.map_or(i32::MIN, |count| count.value())
 }
 
 // Whether the map stores exactly these: first key, last key and label.
@@ -58,20 +48,12 @@ fn stores(
     expected: &[(i32, i32, u16)],
 ) -> Result<bool, Fail> {
     let items = all_ranges(heap, map)?;
-    if items.len() != expected.len() {
-        return Ok(false);
-    }
-    for i in 0..expected.len() {
-        let (first, last, label) = expected[i];
-        let item = items[i];
-        if value(item.key.first()) != first
-            || value(item.key.last()) != last
-            || item.value.number != label
-        {
-            return Ok(false);
-        }
-    }
-    Ok(true)
+    let same = items.iter().zip(expected).all(|(item, (first, last, label))| {
+        value(item.key.first()) == *first
+            && value(item.key.last()) == *last
+            && item.value.number == *label
+    });
+    Ok(same && items.len() == expected.len())
 }
 
 // In 0..10 A, insert 3..5 B gives 0..3 A, 3..5 B, 5..10 A; with two slots it is declined, and nothing changes.
@@ -140,7 +122,7 @@ fn one_gap(rt: HostRuntime) -> Result<(), Fail> {
     let heap = rt.alloc();
     let mut map = map(heap, 8)?;
     assert!(rt; answer(map.insert(range(0, 5)?, A)) == 1);
-    let rest = AnyRange::new(Bound::Included(RawCount::new(5)?), Bound::Unbounded);
+    let rest = AnyRange::new(Bound::Included(RawCount::try_from(5)?), Bound::Unbounded);
     assert!(rt; answer(map.insert(rest, B)) == 2);
     let gaps = all_gaps(heap, &map)?;
     assert!(rt; gaps.len() == 1);
@@ -155,15 +137,15 @@ fn reads(rt: HostRuntime) -> Result<(), Fail> {
     let heap = rt.alloc();
     let mut map = map(heap, 8)?;
     assert!(rt; answer(map.insert(range(0, 5)?, A)) == 1);
-    assert_eq!(rt; map.get(RawCount::new(4)?).ok_or("none")?.number, 1);
-    assert!(rt; map.get(RawCount::new(5)?).is_none());
+    assert_eq!(rt; map.get(RawCount::try_from(4)?).ok_or("none")?.number, 1);
+    assert!(rt; map.get(RawCount::try_from(5)?).is_none());
     assert!(rt; map.intersects(range(4, 9)?));
     assert!(rt; !map.intersects(range(5, 9)?));
     assert!(rt; !map.intersects(range(3, 3)?));
     match map.make(Slots::new(heap, 4097)?) {
         Ok(_) => Err(Fail::new("too many slots")),
         Err(declined) => {
-            assert!(rt; declined.0.number() == 1 && declined.1.count() == 4097);
+            assert!(rt; u8::from(declined.0) == 1 && declined.1.count() == 4097);
             Ok(())
         },
     }

@@ -9,12 +9,13 @@ use tally::Tally;
 fn read_all(rt: &HostRuntime) -> io::Result<Tally> {
     let mut tally = Tally::new();
     let mut chunk = vec![in rt.alloc(); 0u8; 65536]?;
+    // how input is read to its end where nothing may wait: a `loop` would owe a proof that it ends
     for _ in 0..u64::MAX {
         let n = rt.stdin().read(chunk.as_mut_slice())?;
         if n == 0 {
             return Ok(tally);
         }
-        tally.take(&chunk[0..n]);
+        tally.take(&chunk[..n]);
     }
     Err(io::ErrorKind::FileTooLarge.into())
 }

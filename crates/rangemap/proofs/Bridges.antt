@@ -1,28 +1,17 @@
 -- What the ranges' answers say, in the walks' words.
-use Rattle.std.proofs.Common.{◌<◌, ◌≤◌, Some, None, Decides, Option, inl, inr, arith}
-use Rattle.std.proofs.lemmas.Bool.{and_from, and_parts, leb-true, ltb-true, le-leb, lt-ltb}
+use Rattle.std.proofs.Common.{◌<◌, ◌≤◌, Some, None, Option, inl, inr, arith}
 use Rattle.lawful.specs.declared.key.Key.{Ghosts}
 use Rattle.ranges.specs.declared.range.any.AnyRange.{AnyRange}
 use Rattle.ranges.specs.declared.range.ProductArg.{ProductArg}
 use Rattle.ranges.specs.declared.range.ProductArg.TheVariants.{Subject, Object}
 use Rattle.ranges.specs.declared.range.Product.{Product}
-use Rattle.ranges.specs.Ranges.{connects, shared}
+use Rattle.ranges.specs.Ranges.{shared}
 use Rattle.ranges.specs.Parts.{span, Leads, Trails, Cropped, Multiplies}
 use Rattle.rangemap.proofs.Looks.{high_within}
-use Rattle.rangemap.specs.Ranges.{hi, Full, Connected, Before, After, Shared, Multiplied}
+use Rattle.rangemap.specs.Ranges.{hi, Full}
+use Rattle.rangemap.proofs.Parts.{Before, After, Shared, Multiplied}
 
 module _ {K : Type 0} (g : Ghosts K) (a b : AnyRange K) where
-  pub connects_decides : Decides (connects (span g a) (span g b)) (Connected g a b)
-  connects_decides = (
-    (λ e. let both = and_parts _ _ e in let full = and_parts _ _ both.0 in let near = and_parts _ _ both.1 in record {
-      subject = ltb-true _ _ full.0;
-      object = ltb-true _ _ full.1;
-      left = leb-true _ _ near.1;
-      right = leb-true _ _ near.0;
-    }),
-    (λ c. and_from _ _ (and_from _ _ (lt-ltb _ _ c.subject) (lt-ltb _ _ c.object)) (and_from _ _ (le-leb _ _ c.right) (le-leb _ _ c.left))),
-  )
-
   before_part : (p : Option (ProductArg K)) → Leads g (span g a) (span g b) p → Full g a → Full g b → Before g a b p
   before_part None (inl (inl bare)) full other = absurd (omega arith)
   before_part None (inl (inr bare)) full other = absurd (omega arith)
@@ -49,5 +38,5 @@ module _ {K : Type 0} (g : Ghosts K) (a b : AnyRange K) where
   }
 
 -- no range ends past the last key
-pub ends_within : {K : Type 0} (g : Ghosts K) → ((k : K) → g.place k < g.count) → (r : AnyRange K) → hi g r ≤ g.count
+pub ends_within : {K : Type 0} (g : Ghosts K) → ((k : K) → g.place k < g.COUNT) → (r : AnyRange K) → hi g r ≤ g.COUNT
 ends_within g within r = high_within g within r.end

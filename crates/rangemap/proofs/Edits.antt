@@ -1,74 +1,102 @@
 -- The changes, linked to the ledger.
-use Rattle.std.proofs.Common.{◌≡◌, ℕ, suc, ◌+◌, ◌<◌, ◌≤◌, Bool, true, false, cond, leb, ◌⊎◌, List, ◌∷◌, ◌++◌, length, take, None, Ok, vec_items, vec_len, sym, refl, ap, ◌∙◌, subst, ap₂, inl, inr, arith}
+use Rattle.std.specs.Cmp.{IsEquivalence}
+use Rattle.std.proofs.Common.{◌≡◌, ℕ, suc, ◌+◌, ◌<◌, ◌≤◌, Bool, true, false, cond, leb, ◌⊎◌, List, ◌∷◌, ◌++◌, length, take, None, Ok, Err, Result, sym, ap, ◌∙◌, subst, ap₂, inl, inr, arith}
+use Rattle.rangemap.specs.declared.decline.Decline.{Decline}
 use Rattle.std.proofs.lemmas.Bool.{cases_Bool, cond-true, cond-false, and_parts, and_from, leb-true, le-leb}
 use Rattle.std.proofs.lemmas.List.{map-append, take-map, drop-map}
 use Rattle.std.proofs.lemmas.List.Edits.{length-insert}
 use Rattle.std.specs.List.{insert}
-use Rattle.lawful.specs.Equals.{Equality}
 use Rattle.ledger.specs.Values.{SameBelow}
-use Rattle.ledger.specs.Ledger.{Call, remove, insert_disconnected, ranges, declined, within, reaches, meets, changed, outcome}
+use Rattle.ledger.specs.Ledger.{Call, remove, insert_disconnected, ranges, declined, within, reaches, meets, changed}
 use Rattle.ledger.specs.Spans.{Span, held, Rises, Canonical}
 use Rattle.ledger.specs.Promise.{Step}
 use Rattle.lawful.specs.EqualsLemmas.{same_eq}
-use Rattle.ledger.proofs.Calls.{book, Results, step_like, offer_accepted, offer_full, meets_yes, meets_no, disconnected_empty, disconnected_connected, disconnected_offer}
+use Rattle.ledger.proofs.Calls.{step_like, offer_accepted, offer_full, meets_yes, meets_no, disconnected_empty, disconnected_connected, disconnected_offer}
 use Rattle.ranges.specs.declared.range.any.AnyRange.{AnyRange}
-use Rattle.rangemap.specs.declared.map.RangeMap.{RangeMap}
+use Rattle.rangemap.specs.declared.store.Store.{Store}
+use Rattle.rangemap.specs.declared.item.Item.{Item}
 use Rattle.rangemap.specs.Items.{span_at, spans}
-use Rattle.rangemap.specs.Maps.{stored, RisesIn, Does}
+use Rattle.rangemap.specs.Maps.{stored, Does}
 use Rattle.rangemap.specs.Search.{Rising, Last, Stands, Searched}
-use Rattle.rangemap.specs.Cuts.{cut}
+use Rattle.rangemap.specs.Cuts.{Taken, cut}
 use Rattle.rangemap.proofs.Helds.{held_stands, held_joined}
-use Rattle.rangemap.proofs.Looks.{len_listed, within_parts}
+use Rattle.rangemap.proofs.Looks.{does_stay, len_listed, within_parts}
 use Rattle.rangemap.proofs.Puts.{canonical_put, held_stored}
 use Rattle.ranges.specs.Parts.{span as ends}
 use Rattle.lawful.specs.declared.key.Key.{Ghosts}
 use Rattle.rangemap.proofs.Takes.{held_cut, canonical_cut}
 
-module _ {K V : Type 0} (keys : Ghosts K) (eq : V → V → Bool) (law : Equality eq) (m : RangeMap K V) (low high : ℕ) where
-  -- nothing is held in the range, and the map stays
-  pub does_remove_none : (k : ℕ) → k ≡ vec_len m.items → (RisesIn keys m → (p : ℕ) → low ≤ p → p < high → held (stored keys m) p ≡ None) → Does keys eq m (remove low high) (ranges k) m
-  does_remove_none k e n =
-      record {
-        slots = refl;
-        link = λ c.
-            subst (λ i. Step eq keys.count m.slots (stored keys m) (record { call = remove low high; answer = ranges i }) (stored keys m)) (sym (e ∙ len_listed keys m))
-            (step_like eq law keys.count m.slots (stored keys m) (remove low high) (ranges (length (stored keys m))) (stored keys m) c
-            (offer_accepted eq law keys.count m.slots (stored keys m) (changed (remove low high) (held (stored keys m))) (stored keys m) c
-            (λ p i. same_eq eq law _ _ (go c.rises p (cases_Bool (within low high p)))) (omega (arith, len_listed keys m, m.few))));
-      }
+-- the places of the key are taken out of a canonical map; `range` is the key, which holds a place
+module _ {K V : Type 0} (keys : Ghosts K) (eq : V → V → Bool) (law : IsEquivalence eq) (m : Store K V) (canonical : Canonical eq keys.COUNT (stored keys m)) (key : AnyRange K) where
+  abbrev taken_out : Call V
+  taken_out = remove (ends keys key).low (ends keys key).high
+
+  abbrev rest : List (Span V)
+  rest = cut (ends keys key).low (ends keys key).high (stored keys m)
+
+  -- nothing is held at those places, and the map stays
+  remove_none : (k : ℕ) → k ≡ length m.items.items → ((p : ℕ) → (ends keys key).low ≤ p → p < (ends keys key).high → held (stored keys m) p ≡ None) → Does keys eq m taken_out (ranges k) m
+  remove_none k e n =
+      subst (λ i. Does keys eq m taken_out (ranges i) m) (sym (e ∙ len_listed keys m))
+      (does_stay keys eq law m canonical taken_out (ranges (length (stored keys m)))
+      (offer_accepted eq law keys.COUNT m.slots (stored keys m) (changed taken_out (held (stored keys m))) (stored keys m) canonical
+      (λ p i. same_eq eq law _ _ (go p (cases_Bool (within (ends keys key).low (ends keys key).high p)))) (omega (arith, len_listed keys m, m.few))))
     where
-      go : RisesIn keys m → (p : ℕ) → (within low high p ≡ true) ⊎ (within low high p ≡ false) → held (stored keys m) p ≡ cond (within low high p) None (held (stored keys m) p)
-      go r p (inl t) = let b = within_parts low high p t in n r p b.0 b.1 ∙ sym (cond-true _ _ _ t)
-      go r p (inr t) = sym (cond-false _ _ _ t)
+      go : (p : ℕ) → (within (ends keys key).low (ends keys key).high p ≡ true) ⊎ (within (ends keys key).low (ends keys key).high p ≡ false) →
+          held (stored keys m) p ≡ cond (within (ends keys key).low (ends keys key).high p) None (held (stored keys m) p)
+      go p (inl t) = let b = within_parts (ends keys key).low (ends keys key).high p t in n p b.0 b.1 ∙ sym (cond-true _ _ _ t)
+      go p (inr t) = sym (cond-false _ _ _ t)
 
-  -- the range is cut out
-  pub does_remove : (n : RangeMap K V) (k : ℕ) → n.slots ≡ m.slots → k ≡ vec_len n.items → low < high → (Rising (stored keys m) → stored keys n ≡ cut low high (stored keys m)) →
-      Does keys eq m (remove low high) (ranges k) n
-  does_remove n k b e lt t =
-      record {
-        slots = b;
-        link = λ c.
-            let f = t (keys.count, c.rises) in
-            let d : Canonical eq keys.count (stored keys n) = subst (Canonical eq keys.count) (sym f) (canonical_cut low high lt eq keys.count (stored keys m) c) in
-            subst (λ i. Step eq keys.count m.slots (stored keys m) (record { call = remove low high; answer = ranges i }) (stored keys n)) (sym (e ∙ len_listed keys n))
-            (step_like eq law keys.count m.slots (stored keys m) (remove low high) (ranges (length (stored keys n))) (stored keys n) d
-            (offer_accepted eq law keys.count m.slots (stored keys m) (changed (remove low high) (held (stored keys m))) (stored keys n) d
-            (λ p i. same_eq eq law _ _ (ap (λ ys. held ys p) f ∙ held_cut low high (stored keys m) p)) (omega (arith, len_listed keys n, n.few, b))));
-      }
+  pub remove_bare : (k : ℕ) → (ends keys key).high ≤ (ends keys key).low → k ≡ length m.items.items → Does keys eq m taken_out (ranges k) m
+  remove_bare k bare e = remove_none k e (λ p a b. let z : ⊥ = omega arith in absurd z)
 
-  -- there is no slot for the result
-  pub does_remove_full : (n : RangeMap K V) → n.slots ≡ m.slots → low < high →
-      (Rising (stored keys m) → (stored keys n ≡ stored keys m) × (m.slots < length (cut low high (stored keys m)))) → Does keys eq m (remove low high) (declined 11) n
-  does_remove_full n b lt t =
-      record {
-        slots = b;
-        link = λ c.
-            let f = t (keys.count, c.rises) in
-            subst (λ ys. Step eq keys.count m.slots (stored keys m) (record { call = remove low high; answer = declined 11 }) ys) (sym f.0)
-            (step_like eq law keys.count m.slots (stored keys m) (remove low high) (declined 11) (stored keys m) c
-            (offer_full eq law keys.count m.slots (stored keys m) (changed (remove low high) (held (stored keys m))) (cut low high (stored keys m)) (canonical_cut low high lt eq keys.count (stored keys m) c)
-            (λ p i. same_eq eq law _ _ (held_cut low high (stored keys m) p)) f.1));
-      }
+  pub remove_missed : (range : AnyRange K) (i k : ℕ) → range ≡ key → Stands 0 (ends keys range).low (ends keys range).high (stored keys m) i → k ≡ length m.items.items → Does keys eq m taken_out (ranges k) m
+  remove_missed range i k same stands e =
+      let there = subst (λ x. Stands 0 (ends keys x).low (ends keys x).high (stored keys m) i) same stands in
+      remove_none k e (λ p a b. held_stands 0 (ends keys key).low (ends keys key).high (stored keys m) i there p (omega arith) (omega arith))
+
+  module _ (range : AnyRange K) (same : range ≡ key) (full : (ends keys range).low < (ends keys range).high) where
+    abbrev key_full : (ends keys key).low < (ends keys key).high
+    key_full = subst (λ x. (ends keys x).low < (ends keys x).high) same full
+
+    rest_canonical : Canonical eq keys.COUNT rest
+    rest_canonical = canonical_cut (ends keys key).low (ends keys key).high key_full eq keys.COUNT (stored keys m) canonical
+
+    -- whatever the walk answered, the list is canonical
+    pub remove_canonical : (slots : ℕ) (ys : List (Item K V)) (r : Result (Unit {0}) Decline) → Taken keys (ends keys key).low (ends keys key).high slots m.items.items ys r → Canonical eq keys.COUNT (spans keys ys)
+    remove_canonical slots ys (Ok u) taken = subst (Canonical eq keys.COUNT) (sym (taken (keys.COUNT, canonical.rises))) rest_canonical
+    remove_canonical slots ys (Err why) taken = subst (λ zs. Canonical eq keys.COUNT (spans keys zs)) (sym (taken.1 (keys.COUNT, canonical.rises)).0) canonical
+
+    -- the places are cut out
+    pub remove_taken : (n : Store K V) (k : ℕ) → n.slots ≡ m.slots → k ≡ length n.items.items → (Rising (stored keys m) → stored keys n ≡ rest) → Does keys eq m taken_out (ranges k) n
+    remove_taken n k b e walked =
+        let f = walked (keys.COUNT, canonical.rises) in
+        let d : Canonical eq keys.COUNT (stored keys n) = subst (Canonical eq keys.COUNT) (sym f) rest_canonical in
+        record {
+          slots = b;
+          step =
+              subst (λ i. Step eq keys.COUNT m.slots (stored keys m) (record { call = taken_out; answer = ranges i }) (stored keys n)) (sym (e ∙ len_listed keys n))
+              (step_like eq law keys.COUNT m.slots (stored keys m) taken_out (ranges (length (stored keys n))) (stored keys n) d
+              (offer_accepted eq law keys.COUNT m.slots (stored keys m) (changed taken_out (held (stored keys m))) (stored keys n) d
+              (λ p i. same_eq eq law _ _ (ap (λ ys. held ys p) f ∙ held_cut (ends keys key).low (ends keys key).high (stored keys m) p)) (omega (arith, len_listed keys n, n.few, b))));
+        }
+
+    -- there is no slot for the result
+    pub remove_full : (n : Store K V) (slots : ℕ) → n.slots ≡ m.slots → (Rising (stored keys m) → (n.items.items ≡ m.items.items) × (slots < length rest)) → m.slots ≤ slots → Does keys eq m taken_out (declined 11) n
+    remove_full n slots b walked le =
+        let t = walked (keys.COUNT, canonical.rises) in
+        record {
+          slots = b;
+          step =
+              subst (λ ys. Step eq keys.COUNT m.slots (stored keys m) (record { call = taken_out; answer = declined 11 }) ys) (sym (ap (spans keys) t.0))
+              (step_like eq law keys.COUNT m.slots (stored keys m) taken_out (declined 11) (stored keys m) canonical
+              (offer_full eq law keys.COUNT m.slots (stored keys m) (changed taken_out (held (stored keys m))) rest rest_canonical
+              (λ p i. same_eq eq law _ _ (held_cut (ends keys key).low (ends keys key).high (stored keys m) p)) (omega (arith, t.1))));
+        }
+
+-- declined, the items stay
+pub remove_keeps : {K V : Type 0} (keys : Ghosts K) (low high slots : ℕ) (m : Store K V) (ys : List (Item K V)) (why : Decline) → Taken keys low high slots m.items.items ys (Err why) → Rises 0 keys.COUNT (stored keys m) → ys ≡ m.items.items
+remove_keeps keys low high slots m ys why taken rises = (taken.1 (keys.COUNT, rises)).0
 
 -- p is within the range, or just before or after it
 reaches_parts : (low high p : ℕ) → reaches low high p ≡ true → (low ≤ p + 1) × (p < high + 1)
@@ -92,59 +120,60 @@ module _ {V : Type 0} (count low high : ℕ) (xs : List (Span V)) (r : Rises 0 c
   pub meets_apart : (i : ℕ) → Stands 1 low high xs i → meets count (held xs) (reaches low high) ≡ false
   meets_apart i s = meets_no count (held xs) (reaches low high) (λ p k e. let b = reaches_parts low high p e in held_stands 1 low high xs i s p b.0 b.1)
 
-module _ {K V : Type 0} (keys : Ghosts K) (eq : V → V → Bool) (law : Equality eq) (m : RangeMap K V) (key : AnyRange K) (v : V) (h : (ends keys key).high ≤ keys.count) where
+-- the range is stored with the value v, unless that is declined
+module _ {K V : Type 0} (keys : Ghosts K) (eq : V → V → Bool) (law : IsEquivalence eq) (m : Store K V) (canonical : Canonical eq keys.COUNT (stored keys m)) (key : AnyRange K) (v : V) (h : (ends keys key).high ≤ keys.COUNT) where
   abbrev call : Call V
   call = insert_disconnected (ends keys key).low (ends keys key).high v
 
-  -- declined with the number n, the map stays
-  declines : (n : ℕ) → (Canonical eq keys.count (stored keys m) →
-      Results eq law keys.count m.slots (stored keys m) (declined n) (stored keys m) (outcome eq keys.count (book eq law keys.count m.slots (stored keys m)) call)) → Does keys eq m call (declined n) m
-  declines n f = record { slots = refl; link = λ c. step_like eq law keys.count m.slots (stored keys m) call (declined n) (stored keys m) c (f c) }
-
   pub does_empty : (ends keys key).high ≤ (ends keys key).low → Does keys eq m call (declined 9) m
-  does_empty l = declines 9 (λ c. disconnected_empty eq law keys.count m.slots (stored keys m) (ends keys key).low (ends keys key).high v l)
+  does_empty l = does_stay keys eq law m canonical call (declined 9) (disconnected_empty eq law keys.COUNT m.slots (stored keys m) (ends keys key).low (ends keys key).high v l)
 
   module _ (lt : (ends keys key).low < (ends keys key).high) where
-    pub does_connected : (i : ℕ) → i < vec_len m.items → (Rising (stored keys m) → Searched true (ends keys key).low (ends keys key).high (stored keys m) (Ok i)) → Does keys eq m call (declined 10) m
+    pub does_connected : (i : ℕ) → i < length m.items.items → Searched true (ends keys key).low (ends keys key).high (stored keys m) (Ok i) → Does keys eq m call (declined 10) m
     does_connected i l f =
-        declines 10 (λ c. disconnected_connected eq law keys.count m.slots (stored keys m) (ends keys key).low (ends keys key).high v lt
-        (meets_connected keys.count (ends keys key).low (ends keys key).high (stored keys m) c.rises lt i (omega (arith, len_listed keys m)) (f (keys.count, c.rises))))
+        does_stay keys eq law m canonical call (declined 10) (disconnected_connected eq law keys.COUNT m.slots (stored keys m) (ends keys key).low (ends keys key).high v lt
+        (meets_connected keys.COUNT (ends keys key).low (ends keys key).high (stored keys m) canonical.rises lt i (omega (arith, len_listed keys m)) f))
 
-    module _ (i : ℕ) (within : i ≤ vec_len m.items) (found : Rising (stored keys m) → Stands 1 (ends keys key).low (ends keys key).high (stored keys m) i) where
+    module _ (i : ℕ) (within : i ≤ length m.items.items) (found : Stands 1 (ends keys key).low (ends keys key).high (stored keys m) i) where
       abbrev new : List (Span V)
       new = insert (stored keys m) i (span_at keys (record { key = key; value = v }))
+
+      new_spans : (ys : List (Item K V)) → ys ≡ insert m.items.items i (record { key = key; value = v }) → spans keys ys ≡ new
+      new_spans ys f =
+          ap (spans keys) f ∙ (map-append (span_at keys) (take i m.items.items) _ ∙
+          ap₂ (λ (us ws : List (Span V)). us ++ span_at keys (record { key = key; value = v }) ∷ ws) (sym (take-map (span_at keys) i m.items.items)) (sym (drop-map (span_at keys) i m.items.items)))
 
       new_length : length new ≡ length (stored keys m) + 1
       new_length = length-insert (stored keys m) i _ (omega (arith, len_listed keys m))
 
-      new_canonical : Canonical eq keys.count (stored keys m) → Canonical eq keys.count new
-      new_canonical c = canonical_put (span_at keys (record { key = key; value = v })) keys.count lt h eq (stored keys m) i (found (keys.count, c.rises)) c
+      new_canonical : Canonical eq keys.COUNT new
+      new_canonical = canonical_put (span_at keys (record { key = key; value = v })) keys.COUNT lt h eq (stored keys m) i found canonical
 
-      new_held : Canonical eq keys.count (stored keys m) → SameBelow eq keys.count (held new) (changed call (held (stored keys m)))
-      new_held c p k = same_eq eq law _ _ (held_stored (span_at keys (record { key = key; value = v })) keys.count lt h (stored keys m) i (found (keys.count, c.rises)) p)
+      new_held : SameBelow eq keys.COUNT (held new) (changed call (held (stored keys m)))
+      new_held p k = same_eq eq law _ _ (held_stored (span_at keys (record { key = key; value = v })) keys.COUNT lt h (stored keys m) i found p)
 
-      pub does_full : m.slots ≤ vec_len m.items → Does keys eq m call (declined 11) m
+      abbrev apart : meets keys.COUNT (held (stored keys m)) (reaches (ends keys key).low (ends keys key).high) ≡ false
+      apart = meets_apart keys.COUNT (ends keys key).low (ends keys key).high (stored keys m) canonical.rises lt i found
+
+      pub does_full : m.slots ≤ length m.items.items → Does keys eq m call (declined 11) m
       does_full n =
-          declines 11 (λ c. disconnected_offer eq law keys.count m.slots (stored keys m) (ends keys key).low (ends keys key).high v (declined 11) (stored keys m) lt
-          (meets_apart keys.count (ends keys key).low (ends keys key).high (stored keys m) c.rises lt i (found (keys.count, c.rises)))
-          (offer_full eq law keys.count m.slots (stored keys m) (changed call (held (stored keys m))) new (new_canonical c) (new_held c) (omega (arith, new_length, len_listed keys m))))
+          does_stay keys eq law m canonical call (declined 11) (disconnected_offer eq law keys.COUNT m.slots (stored keys m) (ends keys key).low (ends keys key).high v (declined 11) (stored keys m) lt apart
+          (offer_full eq law keys.COUNT m.slots (stored keys m) (changed call (held (stored keys m))) new new_canonical new_held (omega (arith, new_length, len_listed keys m))))
 
-      pub does_store : (n : RangeMap K V) (k : ℕ) → n.slots ≡ m.slots → k ≡ vec_len n.items → vec_items n.items ≡ insert (vec_items m.items) i (record { key = key; value = v }) →
+      -- stored, the list is canonical
+      pub store_canonical : (ys : List (Item K V)) → ys ≡ insert m.items.items i (record { key = key; value = v }) → Canonical eq keys.COUNT (spans keys ys)
+      store_canonical ys f = subst (Canonical eq keys.COUNT) (sym (new_spans ys f)) new_canonical
+
+      pub does_store : (n : Store K V) (k : ℕ) → n.slots ≡ m.slots → k ≡ length n.items.items → n.items.items ≡ insert m.items.items i (record { key = key; value = v }) →
           Does keys eq m call (ranges k) n
       does_store n k b e f =
           record {
             slots = b;
-            link = λ c.
-                subst (λ (j : ℕ). Step eq keys.count m.slots (stored keys m) (record { call = call; answer = ranges j }) (stored keys n)) (sym (e ∙ len_listed keys n))
-                (subst (λ (ys : List (Span V)). length ys ≤ m.slots → Step eq keys.count m.slots (stored keys m) (record { call = call; answer = ranges (length ys) }) ys) (sym is)
-                (λ j. step_like eq law keys.count m.slots (stored keys m) call (ranges (length new)) new (new_canonical c)
-                (disconnected_offer eq law keys.count m.slots (stored keys m) (ends keys key).low (ends keys key).high v (ranges (length new)) new lt
-                (meets_apart keys.count (ends keys key).low (ends keys key).high (stored keys m) c.rises lt i (found (keys.count, c.rises)))
-                (offer_accepted eq law keys.count m.slots (stored keys m) (changed call (held (stored keys m))) new (new_canonical c) (new_held c) j)))
+            step =
+                subst (λ (j : ℕ). Step eq keys.COUNT m.slots (stored keys m) (record { call = call; answer = ranges j }) (stored keys n)) (sym (e ∙ len_listed keys n))
+                (subst (λ (ys : List (Span V)). length ys ≤ m.slots → Step eq keys.COUNT m.slots (stored keys m) (record { call = call; answer = ranges (length ys) }) ys) (sym (new_spans n.items.items f))
+                (λ j. step_like eq law keys.COUNT m.slots (stored keys m) call (ranges (length new)) new new_canonical
+                (disconnected_offer eq law keys.COUNT m.slots (stored keys m) (ends keys key).low (ends keys key).high v (ranges (length new)) new lt apart
+                (offer_accepted eq law keys.COUNT m.slots (stored keys m) (changed call (held (stored keys m))) new new_canonical new_held j)))
                 (omega (arith, len_listed keys n, n.few, b)));
           }
-        where
-          is : stored keys n ≡ new
-          is =
-              ap (spans keys) f ∙ (map-append (span_at keys) (take i (vec_items m.items)) _ ∙
-              ap₂ (λ (us ws : List (Span V)). us ++ span_at keys (record { key = key; value = v }) ∷ ws) (sym (take-map (span_at keys) i (vec_items m.items))) (sym (drop-map (span_at keys) i (vec_items m.items))))

@@ -1,5 +1,5 @@
 -- What the search answers, in the words of the walks. Assumes nothing.
-use Rattle.std.proofs.Common.{◌≡◌, ℕ, suc, ◌+◌, ◌<◌, ◌≤◌, Bool, true, List, [], ◌∷◌, length, take, drop, Ok, Err, Result, subst, inl, inr, arith, MatchResult}
+use Rattle.std.proofs.Common.{ℕ, suc, ◌+◌, ◌<◌, ◌≤◌, Bool, true, List, [], ◌∷◌, length, take, drop, Ok, Err, Result, subst, inl, inr, arith, MatchResult}
 use Rattle.std.proofs.ByRecursion.{All-get_or}
 use Rattle.std.proofs.lemmas.List.{length-map}
 use Rattle.std.specs.List.{AllByRecursion}
@@ -66,8 +66,3 @@ module _ {K V : Type 0} (g : Ghosts K) (eq : V → V → Bool) (key : AnyRange K
         front = all_ends (lo g key) (take i (spans g xs)) stands.earlier;
         start = all_from (suc (hi g key)) (hi g key + 1) (drop i (spans g xs)) (omega arith) stands.later;
       }
-
--- an index of the list is one of the Vec
-pub index_cases : (n k : ℕ) → n ≡ k → (r : Result ℕ ℕ) → Index n r → MatchResult r (λ i. i < k) (λ i. i ≤ k)
-index_cases n k e (Ok i) h = omega arith
-index_cases n k e (Err i) h = omega arith

@@ -1,5 +1,5 @@
 -- Steps of the walker over the gaps.
-use Rattle.std.proofs.Common.{◌≡◌, ℕ, zero, suc, ◌+◌, ◌-◌, ◌<◌, ◌≤◌, ◌⊎◌, List, [], ◌∷◌, ◌++◌, get_or, take, drop, Some, None, vec_items, vec_len, sym, refl, ap, ◌∙◌, subst, inl, inr, arith}
+use Rattle.std.proofs.Common.{◌≡◌, ℕ, zero, suc, ◌+◌, ◌-◌, ◌<◌, ◌≤◌, ◌⊎◌, List, [], ◌∷◌, ◌++◌, get_or, take, drop, Some, None, length, sym, refl, ap, ◌∙◌, subst, inl, inr, arith}
 use Rattle.std.specs.List.{AllByRecursion}
 use Rattle.std.proofs.lemmas.List.{drop_all, take_more}
 use Rattle.std.proofs.lemmas.Bool.{cases_lt}
@@ -7,11 +7,11 @@ use Rattle.ledger.specs.Spans.{Span, Gap, Rises, gap, gaps_from, gaps}
 use Rattle.ledger.proofs.Gaps.{gap_there, gap_not, gaps_rise}
 use Rattle.rangemap.specs.declared.item.Item.{Item}
 use Rattle.ranges.specs.declared.range.any.AnyRange.{AnyRange}
-use Rattle.rangemap.specs.declared.map.RangeMap.{RangeMap}
+use Rattle.rangemap.specs.declared.store.Store.{Store}
 use Rattle.rangemap.specs.Items.{span_at}
-use Rattle.rangemap.specs.Maps.{stored, RisesIn, Ready}
+use Rattle.rangemap.specs.Maps.{stored}
 use Rattle.rangemap.specs.Search.{Splits}
-use Rattle.rangemap.specs.Walks.{past, end_of, gap_end, gap_of, First, Moved, Stays}
+use Rattle.rangemap.specs.Walks.{past, end_of, gap_end, gap_of, First}
 use Rattle.rangemap.proofs.Looks.{len_listed, span_listed, drop_listed}
 use Rattle.rangemap.proofs.Rising.{ends_earlier}
 use Rattle.ranges.specs.Parts.{span as ends}
@@ -45,75 +45,62 @@ module _ {V : Type 0} where
   end_push from (y ∷ xs) x = end_push y.high xs x
 
   -- the last of the first spans
-  pub end_take : {K : Type 0} (keys : Ghosts K) (m : RangeMap K V) (i : ℕ) (x : Item K V) → 0 < i → i ≤ vec_len m.items → x ≡ get_or (vec_items m.items) (i - 1) x → (ends keys x.key).high ≡ end_of 0 (take i (stored keys m))
+  pub end_take : {K : Type 0} (keys : Ghosts K) (m : Store K V) (i : ℕ) (x : Item K V) → 0 < i → i ≤ length m.items.items → x ≡ get_or m.items.items (i - 1) x → (ends keys x.key).high ≡ end_of 0 (take i (stored keys m))
   end_take keys m i x z l e =
       let k : i - 1 + 1 ≡ i = omega arith in
       let f = subst (λ n. take n (stored keys m) ≡ take (i - 1) (stored keys m) ++ get_or (stored keys m) (i - 1) (span_at keys x) ∷ []) k (take_more (stored keys m) (i - 1) (span_at keys x) (omega (arith, len_listed keys m))) in
       sym (ap (end_of 0) f ∙ (end_push 0 (take (i - 1) (stored keys m)) (get_or (stored keys m) (i - 1) (span_at keys x)) ∙ ap (λ y. y.high) (span_listed keys m (i - 1) x (omega arith) e)))
 
 -- where a look for the first gap past the place stands: what is left from the end `low` on, and the index i
-abbrev pub LooksOn : {K V : Type 0} → Ghosts K → RangeMap K V → ℕ → ℕ → ℕ → Type 0
-LooksOn keys m p low i = RisesIn keys m → past gap_end p (gaps keys.count (stored keys m)) ≡ past gap_end p (gaps_from low keys.count (drop i (stored keys m)))
+abbrev pub LooksOn : {K V : Type 0} → Ghosts K → Store K V → ℕ → ℕ → ℕ → Type 0
+LooksOn keys m p low i = past gap_end p (gaps keys.COUNT (stored keys m)) ≡ past gap_end p (gaps_from low keys.COUNT (drop i (stored keys m)))
 
-module _ {K V : Type 0} (keys : Ghosts K) (m : RangeMap K V) (p : ℕ) where
-  pub looks_first : (i low : ℕ) → (RisesIn keys m → Splits p (stored keys m) i) → low ≡ end_of 0 (take i (stored keys m)) → LooksOn keys m p low i
-  looks_first i low s e r =
-      gaps_skip p 0 keys.count (stored keys m) i r (s r).earlier ∙ ap (λ n. past gap_end p (gaps_from n keys.count (drop i (stored keys m)))) (sym e)
+module _ {K V : Type 0} (keys : Ghosts K) (m : Store K V) (p : ℕ) where
+  pub looks_first : (i low : ℕ) → Rises 0 keys.COUNT (stored keys m) → Splits p (stored keys m) i → low ≡ end_of 0 (take i (stored keys m)) → LooksOn keys m p low i
+  looks_first i low r s e =
+      gaps_skip p 0 keys.COUNT (stored keys m) i r s.earlier ∙ ap (λ n. past gap_end p (gaps_from n keys.COUNT (drop i (stored keys m)))) (sym e)
 
   module _ (low i : ℕ) (h : LooksOn keys m p low i) where
-    module _ (x : Item K V) (l : i < vec_len m.items) (e : x ≡ get_or (vec_items m.items) i x) where
-      here : RisesIn keys m → past gap_end p (gaps keys.count (stored keys m)) ≡ past gap_end p (gap low (ends keys x.key).low (gaps_from (ends keys x.key).high keys.count (drop (i + 1) (stored keys m))))
-      here r = h r ∙ ap (λ ys. past gap_end p (gaps_from low keys.count ys)) (drop_listed keys m i x l e)
+    module _ (x : Item K V) (l : i < length m.items.items) (e : x ≡ get_or m.items.items i x) where
+      here : past gap_end p (gaps keys.COUNT (stored keys m)) ≡ past gap_end p (gap low (ends keys x.key).low (gaps_from (ends keys x.key).high keys.COUNT (drop (i + 1) (stored keys m))))
+      here = h ∙ ap (λ ys. past gap_end p (gaps_from low keys.COUNT ys)) (drop_listed keys m i x l e)
 
-      pub looks_found : (high : ℕ) → high ≡ (ends keys x.key).low → low < high → p < high → RisesIn keys m →
-          First (past gap_end p (gaps keys.count (stored keys m))) (Some (record { low = low; high = high; value = tt }))
-      looks_found high f a b r =
-          (_, here r ∙ (ap (λ n. past gap_end p (gap low n (gaps_from (ends keys x.key).high keys.count (drop (i + 1) (stored keys m))))) (sym f) ∙ gap_first p low high _ a b))
+      pub looks_found : (high : ℕ) → high ≡ (ends keys x.key).low → low < high → p < high →
+          First (past gap_end p (gaps keys.COUNT (stored keys m))) (Some (record { low = low; high = high; value = tt }))
+      looks_found high f a b =
+          (_, here ∙ (ap (λ n. past gap_end p (gap low n (gaps_from (ends keys x.key).high keys.COUNT (drop (i + 1) (stored keys m))))) (sym f) ∙ gap_first p low high _ a b))
 
       pub looks_more : (next : ℕ) → next ≡ (ends keys x.key).high → ((ends keys x.key).low ≤ low) ⊎ ((ends keys x.key).low ≤ p) → LooksOn keys m p next (i + 1)
-      looks_more next f o r = here r ∙ (gap_passed p low (ends keys x.key).low _ o ∙ ap (λ n. past gap_end p (gaps_from n keys.count (drop (i + 1) (stored keys m)))) (sym f))
+      looks_more next f o = here ∙ (gap_passed p low (ends keys x.key).low _ o ∙ ap (λ n. past gap_end p (gaps_from n keys.COUNT (drop (i + 1) (stored keys m)))) (sym f))
 
-    module _ (l : vec_len m.items ≤ i) where
-      last : RisesIn keys m → past gap_end p (gaps keys.count (stored keys m)) ≡ past gap_end p (gap low keys.count [])
-      last r = h r ∙ ap (λ ys. past gap_end p (gaps_from low keys.count ys)) (drop_all i (stored keys m) (omega (arith, len_listed keys m)))
+    module _ (l : length m.items.items ≤ i) where
+      last : past gap_end p (gaps keys.COUNT (stored keys m)) ≡ past gap_end p (gap low keys.COUNT [])
+      last = h ∙ ap (λ ys. past gap_end p (gaps_from low keys.COUNT ys)) (drop_all i (stored keys m) (omega (arith, len_listed keys m)))
 
-      pub looks_last : low < keys.count → p < keys.count → RisesIn keys m →
-          First (past gap_end p (gaps keys.count (stored keys m))) (Some (record { low = low; high = keys.count; value = tt }))
-      looks_last a b r = (_, last r ∙ gap_first p low keys.count [] a b)
+      pub looks_last : low < keys.COUNT → p < keys.COUNT →
+          First (past gap_end p (gaps keys.COUNT (stored keys m))) (Some (record { low = low; high = keys.COUNT; value = tt }))
+      looks_last a b = (_, last ∙ gap_first p low keys.COUNT [] a b)
 
-      pub looks_none : (keys.count ≤ low) ⊎ (keys.count ≤ p) → RisesIn keys m → First (past gap_end p (gaps keys.count (stored keys m))) None
-      looks_none o r = last r ∙ gap_passed p low keys.count [] o
+      pub looks_none : (keys.COUNT ≤ low) ⊎ (keys.COUNT ≤ p) → First (past gap_end p (gaps keys.COUNT (stored keys m))) None
+      looks_none o = last ∙ gap_passed p low keys.COUNT [] o
 
-module _ {K V : Type 0} (keys : Ghosts K) (m : RangeMap K V) (p l : ℕ) where
-  pub gaps_end : (RisesIn keys m → past gap_end p (gaps keys.count (stored keys m)) ≡ []) → Stays gap_end (Ready keys m) (gaps keys.count (stored keys m)) p l p l
-  gaps_end h = record { place = refl; left = refl; none = λ y. h y.1 }
+module _ {K V : Type 0} (keys : Ghosts K) (m : Store K V) (rises : Rises 0 keys.COUNT (stored keys m)) (p : ℕ) (x : AnyRange K) (first : First (past gap_end p (gaps keys.COUNT (stored keys m))) (Some (gap_of keys x))) where
+  abbrev all : List Gap
+  all = gaps keys.COUNT (stored keys m)
 
-  module _ (x : AnyRange K) (h : RisesIn keys m → First (past gap_end p (gaps keys.count (stored keys m))) (Some (gap_of keys x))) where
-    next_at : (k : ℕ) → (k < l) × ((ends keys x).high + k ≡ p + l) → Moved gap_end (Ready keys m) (gaps keys.count (stored keys m)) p l (gap_of keys x) (ends keys x).high k
-    next_at k (a, b) =
-        record {
-          falls = a;
-          total = b;
-          moves = refl;
-          next = λ y.
-              let G = gaps keys.count (stored keys m) in
-              let f = h y.1 in
-              f.1 ∙ ap (λ ys. gap_of keys x ∷ ys) (sym (past_next gap_end 0 p G (gap_of keys x) f.0 (climbs_gaps 0 keys.count G (gaps_rise 0 keys.count (stored keys m) y.1)) f.1).1);
-        }
+  abbrev rise : Rises 0 keys.COUNT all
+  rise = gaps_rise 0 keys.COUNT (stored keys m) rises
 
-    pub gaps_next : (q k : ℕ) → q ≡ (ends keys x).high → (k < l) × (q + k ≡ p + l) → Moved gap_end (Ready keys m) (gaps keys.count (stored keys m)) p l (gap_of keys x) q k
-    gaps_next q k f = subst (λ (n : ℕ). (k < l) × (n + k ≡ p + l) → Moved gap_end (Ready keys m) (gaps keys.count (stored keys m)) p l (gap_of keys x) n k) (sym f) (next_at k)
+  abbrev behind : (p < (ends keys x).high) × (past gap_end (ends keys x).high all ≡ first.0)
+  behind = past_next gap_end 0 p all (gap_of keys x) first.0 (climbs_gaps 0 keys.COUNT all rise) first.1
 
-    pub gaps_stuck : (q : ℕ) → q ≡ (ends keys x).high → (p < q → q ≤ p + l → ⊥) → Stays gap_end (Ready keys m) (gaps keys.count (stored keys m)) p l p l
-    gaps_stuck q e z =
-        record {
-          place = refl;
-          left = refl;
-          none = λ y.
-              let G = gaps keys.count (stored keys m) in
-              let f = h y.1 in
-              let n = past_next gap_end 0 p G (gap_of keys x) f.0 (climbs_gaps 0 keys.count G (gaps_rise 0 keys.count (stored keys m) y.1)) f.1 in
-              let b = subst (λ ys. AllByRecursion (λ x. x.high + 0 ≤ keys.count) ys) f.1
-              (past_holds gap_end (λ x. x.high + 0 ≤ keys.count) p G (ends_earlier 0 keys.count 0 keys.count G (omega arith) (gaps_rise 0 keys.count (stored keys m) y.1))) in
-              absurd (z (omega (arith, e, n.0)) (omega (arith, e, b.0, y.0)));
-        }
+  -- the first gap past the place ends past it, and at the last place or earlier
+  pub gaps_reach : (p < (ends keys x).high) × ((ends keys x).high ≤ keys.COUNT)
+  gaps_reach =
+      let b = subst (λ ys. AllByRecursion (λ x. x.high + 0 ≤ keys.COUNT) ys) first.1
+      (past_holds gap_end (λ x. x.high + 0 ≤ keys.COUNT) p all (ends_earlier 0 keys.COUNT 0 keys.COUNT all (omega arith) rise)) in
+      (behind.0, omega (arith, b.0))
+
+  -- it is next
+  pub gaps_next : past gap_end p all ≡ gap_of keys x ∷ past gap_end (ends keys x).high all
+  gaps_next = first.1 ∙ ap (λ ys. gap_of keys x ∷ ys) (sym behind.1)

@@ -1,5 +1,4 @@
 pub mod Bridges
-pub mod Bundles
 pub mod Changes
 pub mod Does
 pub mod Edits
@@ -13,7 +12,6 @@ pub mod Inserts
 pub mod Links
 pub mod Listed
 pub mod Looks
-pub mod Orders
 pub mod Parts
 pub mod Put
 pub mod Puts

@@ -1,7 +1,8 @@
 -- The ledger's canonical lists and the walk's tight ones, and a changed list as a step of the ledger.
 use Rattle.std.proofs.Common.{◌≡◌, ℕ, ◌-◌, ◌<◌, ◌≤◌, Bool, true, cond, List, [], ◌∷◌, length, Some, None, Option, sym, refl, ◌∙◌, subst, ⊎_elim, arith}
 use Rattle.std.proofs.lemmas.Bool.{cases_lt, cond-true, cond-false, false≢true}
-use Rattle.lawful.specs.Equals.{Equality, same}
+use Rattle.std.specs.Cmp.{IsEquivalence}
+use Rattle.lawful.specs.Equals.{same}
 use Rattle.ledger.specs.Values.{Held, SameBelow}
 use Rattle.ledger.specs.Ledger.{Call, within, ranges, declined, offer, outcome}
 use Rattle.ledger.specs.Spans.{Span, held, Rises, AllParted, Canonical}
@@ -47,11 +48,11 @@ module _ {V : Type 0} (eq : V → V → Bool) where
   same_none (Some a) e = absurd (false≢true e)
 
 -- The list xs, changed by f from l to below h, is ys.
-module _ {V : Type 0} (eq : V → V → Bool) (laws : Equality eq) (count slots l h : ℕ) (f : Option V → Option V) (xs ys : List (Span V)) (canonical : Canonical eq count xs) (le : h ≤ count) (is : Changed eq l h f xs ys) where
+module _ {V : Type 0} (eq : V → V → Bool) (laws : IsEquivalence eq) (count slots l h : ℕ) (f : Option V → Option V) (xs ys : List (Span V)) (canonical : Canonical eq count xs) (le : h ≤ count) (is : Changed eq l h f xs ys) where
   abbrev goal : Held V
   goal p = cond (within l h p) (f (held xs p)) (held xs p)
 
-  changed_canonical : Canonical eq count ys
+  pub changed_canonical : Canonical eq count ys
   changed_canonical = tight_canonical eq count ys is.canonical (λ p past. same_none eq (held ys p) (subst (λ o. same eq (held ys p) o ≡ true) (held_late 0 count xs canonical.rises p past) ((is.alters p).above (omega arith))))
 
   changed_holds : SameBelow eq count (held ys) goal

@@ -1,26 +1,27 @@
 -- A span put in front of a list, and a list's end replaced.
+use Rattle.std.specs.Cmp.{IsEquivalence}
 use Rattle.std.proofs.Common.{◌≡◌, ℕ, suc, ◌<◌, ◌≤◌, min, max, Bool, true, false, cond, ◌&&◌, ltb, leb, List, [], ◌∷◌, ◌++◌, Some, Option, sym, refl, ap, ◌∙◌, subst, ⊎_elim, arith}
 use Rattle.std.proofs.lemmas.Bool.{and_from, and_left, and_right, and_parts, and_cases, leb-true, ltb-true, le-leb, lt-ltb, cond-true, cond-false, cond_both, cases_lt, cases_Bool, both_ways}
-use Rattle.lawful.specs.Equals.{Equality}
 use Rattle.ledger.specs.Ledger.{within}
 use Rattle.ledger.specs.Spans.{Span, held}
-use Rattle.rangemap.specs.Spans.{span, joined, connects, Same, Precedes, Leads, Tight, From, put}
+use Rattle.rangemap.specs.Spans.{span, joined, near, Same, Precedes, Leads, Tight, From, put}
 use Rattle.lawful.specs.EqualsLemmas.{same_refl as alike_refl, same_sym as alike_sym, same_trans as alike_trans}
 use Rattle.rangemap.proofs.Held.{held_at, held_low, held_high}
 
--- What it is to be connected, in numbers.
-module _ (l h a b : ℕ) where
-  pub connects_parts : connects l h a b ≡ true → (l < h) × (a < b) × (l ≤ b) × (a ≤ h)
-  connects_parts e =
-      let x = and_parts (ltb l h) (ltb a b && (leb l b && leb a h)) e in
-      let y = and_parts (ltb a b) (leb l b && leb a h) x.1 in
-      let z = and_parts (leb l b) (leb a h) y.1 in
-      (ltb-true l h x.0, ltb-true a b y.0, leb-true l b z.0, leb-true a h z.1)
+-- What it is to be near, in numbers.
+module _ {V : Type 0} (s t : Span V) where
+  pub near_parts : near s t ≡ true → (s.low < s.high) × (t.low < t.high) × (s.low ≤ t.high) × (t.low ≤ s.high)
+  near_parts e =
+      let both = and_parts (ltb s.low s.high && ltb t.low t.high) (leb t.low s.high && leb s.low t.high) e in
+      let full = and_parts (ltb s.low s.high) (ltb t.low t.high) both.0 in
+      let meet = and_parts (leb t.low s.high) (leb s.low t.high) both.1 in
+      (ltb-true s.low s.high full.0, ltb-true t.low t.high full.1, leb-true s.low t.high meet.1, leb-true t.low s.high meet.0)
 
-  pub connects_from : l < h → a < b → l ≤ b → a ≤ h → connects l h a b ≡ true
-  connects_from x y z w = and_from _ _ (lt-ltb l h x) (and_from _ _ (lt-ltb a b y) (and_from _ _ (le-leb l b z) (le-leb a h w)))
+  pub near_from : s.low < s.high → t.low < t.high → s.low ≤ t.high → t.low ≤ s.high → near s t ≡ true
+  near_from x y z w =
+      and_from _ _ (and_from _ _ (lt-ltb s.low s.high x) (lt-ltb t.low t.high y)) (and_from _ _ (le-leb t.low s.high w) (le-leb s.low t.high z))
 
-module _ {V : Type 0} {eq : V → V → Bool} (laws : Equality eq) where
+module _ {V : Type 0} {eq : V → V → Bool} (laws : IsEquivalence eq) where
   pub same_refl : (a : Option V) → Same eq a a
   same_refl a = alike_refl eq laws a
 
@@ -43,7 +44,7 @@ module _ {V : Type 0} {eq : V → V → Bool} (laws : Equality eq) where
   -- what differs from v differs from what equals v
   pub unequal_like : (u v w : V) → eq u v ≡ false → eq v w ≡ true → eq u w ≡ false
   unequal_like u v w ne e =
-      ⊎_elim (λ t. absurd (both_ways (eq u v) ne (laws.transitive u w v t (laws.symmetric w v ∙ e)))) (λ f. f) (cases_Bool (eq u w))
+      ⊎_elim (λ t. absurd (both_ways (eq u v) ne (laws.congr u w v t ∙ (laws.symm w v ∙ e)))) (λ f. f) (cases_Bool (eq u w))
 
   -- the same front keeps lists the same
   pub same_after : (xs ys zs : List (Span V)) (p : ℕ) → Same eq (held ys p) (held zs p) → Same eq (held (xs ++ ys) p) (held (xs ++ zs) p)
@@ -51,31 +52,31 @@ module _ {V : Type 0} {eq : V → V → Bool} (laws : Equality eq) where
   same_after (s ∷ ss) ys zs p e =
       elim (within s.low s.high p)
       as (λ b. Same eq (cond b (Some s.value) (held (ss ++ ys) p)) (cond b (Some s.value) (held (ss ++ zs) p)))
-      [ true ↦ laws.reflexive s.value | false ↦ same_after ss ys zs p e ]
+      [ true ↦ laws.refl s.value | false ↦ same_after ss ys zs p e ]
 
   -- `put`, by whether it joins
-  pub put_joins : (s t : Span V) (ts : List (Span V)) → connects s.low s.high t.low t.high ≡ true → eq s.value t.value ≡ true → put eq s (t ∷ ts) ≡ joined s t ∷ ts
+  pub put_joins : (s t : Span V) (ts : List (Span V)) → near s t ≡ true → eq s.value t.value ≡ true → put eq s (t ∷ ts) ≡ joined s t ∷ ts
   put_joins s t ts near same = cond-true _ _ _ (and_from _ _ near same)
 
-  pub put_stays : (s t : Span V) (ts : List (Span V)) → (connects s.low s.high t.low t.high ≡ true → eq s.value t.value ≡ false) → put eq s (t ∷ ts) ≡ s ∷ t ∷ ts
+  pub put_stays : (s t : Span V) (ts : List (Span V)) → (near s t ≡ true → eq s.value t.value ≡ false) → put eq s (t ∷ ts) ≡ s ∷ t ∷ ts
   put_stays s t ts apart =
-      let near = connects s.low s.high t.low t.high in
+      let close = near s t in
       let same = eq s.value t.value in
-      let no : (near && same) ≡ false = ⊎_elim (λ e. and_right near same (apart e)) (λ e. and_left near same e) (cases_Bool near) in
-      cond-false (near && same) (joined s t ∷ ts) (s ∷ t ∷ ts) no
+      let no : (close && same) ≡ false = ⊎_elim (λ e. and_right close same (apart e)) (λ e. and_left close same e) (cases_Bool close) in
+      cond-false (close && same) (joined s t ∷ ts) (s ∷ t ∷ ts) no
 
   -- where t starts no earlier than s ends, they join where they touch
-  touching : (s t : Span V) → s.high ≤ t.low → connects s.low s.high t.low t.high ≡ true → (s.high ≡ t.low) × (joined s t ≡ span s.low t.high t.value)
-  touching s t from near =
-      let parts = connects_parts s.low s.high t.low t.high near in
+  touching : (s t : Span V) → s.high ≤ t.low → near s t ≡ true → (s.high ≡ t.low) × (joined s t ≡ span s.low t.high t.value)
+  touching s t from close =
+      let parts = near_parts s t close in
       let low : min t.low s.low ≡ s.low = omega (arith, parts.0, from) in
       let high : max t.high s.high ≡ t.high = omega (arith, parts.1, from) in
       (omega (arith, parts.3, from), ap (λ k. span k (max t.high s.high) t.value) low ∙ ap (λ k. span s.low k t.value) high)
 
   pub put_cases : (P : List (Span V) → Type 0) (s t : Span V) (ts : List (Span V)) → s.high ≤ t.low → (s.high ≡ t.low → t.low < t.high → eq s.value t.value ≡ true → P (span s.low t.high t.value ∷ ts)) → ((s.low < s.high → t.low < t.high → s.high ≡ t.low → eq s.value t.value ≡ false) → P (s ∷ t ∷ ts)) → P (put eq s (t ∷ ts))
-  put_cases P s t ts from joins stays = cond_both (connects s.low s.high t.low t.high && eq s.value t.value) _ _ P
-      (λ b. let both = and_parts _ _ b in let is = touching s t from both.0 in subst (λ x. P (x ∷ ts)) (sym is.1) (joins is.0 (connects_parts s.low s.high t.low t.high both.0).1 both.1))
-      (λ b. stays (λ full next touch. ⊎_elim (λ far. absurd (both_ways _ far (connects_from s.low s.high t.low t.high full next (omega arith) (omega arith)))) (λ f. f) (and_cases _ _ b)))
+  put_cases P s t ts from joins stays = cond_both (near s t && eq s.value t.value) _ _ P
+      (λ b. let both = and_parts _ _ b in let is = touching s t from both.0 in subst (λ x. P (x ∷ ts)) (sym is.1) (joins is.0 (near_parts s t both.0).1 both.1))
+      (λ b. stays (λ full next touch. ⊎_elim (λ far. absurd (both_ways _ far (near_from s t full next (omega arith) (omega arith)))) (λ f. f) (and_cases _ _ b)))
 
   pub put_canonical : (s : Span V) (ys : List (Span V)) → s.low < s.high → From s.high ys → Tight eq ys → Tight eq (put eq s ys)
   put_canonical s [] full from canonical = (full, tt, tt)
@@ -99,7 +100,7 @@ module _ {V : Type 0} {eq : V → V → Bool} (laws : Equality eq) where
   -- a span that ends before the list is simply put in front
   pub put_apart : (s : Span V) (ys : List (Span V)) → From (suc s.high) ys → put eq s ys ≡ s ∷ ys
   put_apart s [] from = refl
-  put_apart s (t ∷ ts) from = put_stays s t ts (λ near. let parts = connects_parts s.low s.high t.low t.high near in absurd (omega (arith, parts.3, from)))
+  put_apart s (t ∷ ts) from = put_stays s t ts (λ close. let parts = near_parts s t close in absurd (omega (arith, parts.3, from)))
 
   -- two spans that touch, as one
   held_joined : (s t : Span V) (ts : List (Span V)) (p : ℕ) → s.low < s.high → s.high ≡ t.low → t.low < t.high → eq s.value t.value ≡ true → Same eq (held (span s.low t.high t.value ∷ ts) p) (held (s ∷ t ∷ ts) p)
@@ -112,7 +113,7 @@ module _ {V : Type 0} {eq : V → V → Bool} (laws : Equality eq) where
           same_by (held_low (span s.low t.high t.value) ts p lt ∙ sym (held_low s (t ∷ ts) p lt ∙ held_low t ts p past))
 
       first : s.low ≤ p → p < s.high → Same eq (held (span s.low t.high t.value ∷ ts) p) (held (s ∷ t ∷ ts) p)
-      first le lt = same_at (held_at (span s.low t.high t.value) ts p le (omega arith)) (held_at s (t ∷ ts) p le lt) (laws.symmetric t.value s.value ∙ same)
+      first le lt = same_at (held_at (span s.low t.high t.value) ts p le (omega arith)) (held_at s (t ∷ ts) p le lt) (laws.symm t.value s.value ∙ same)
 
       second : s.high ≤ p → p < t.high → Same eq (held (span s.low t.high t.value ∷ ts) p) (held (s ∷ t ∷ ts) p)
       second le lt = same_by (held_at (span s.low t.high t.value) ts p (omega arith) lt ∙ sym (held_high s (t ∷ ts) p le ∙ held_at t ts p (omega arith) lt))

@@ -1,13 +1,13 @@
 -- The steps of a backward walk over a canonical list, and its end.
+use Rattle.std.specs.Cmp.{IsEquivalence}
 use Rattle.std.proofs.Common.{◌≡◌, ℕ, ◌<◌, ◌≤◌, Bool, List, ◌∷◌, ◌++◌, Some, None, Option, sym, refl, ap, ◌∙◌, ⊎_elim, arith}
 use Rattle.std.proofs.lemmas.Bool.{cases_lt}
-use Rattle.lawful.specs.Equals.{Equality}
 use Rattle.ledger.specs.Spans.{Span, held}
 use Rattle.rangemap.specs.Spans.{span, Same, Leads, Tight, From, Ends, Meets, put, put_made, Alters, Rest, Changed}
 use Rattle.rangemap.proofs.Held.{held_at, held_high, held_past, held_before, from_less, canonical_left, canonical_right, canonical_append}
 use Rattle.rangemap.proofs.Put.{same_refl, same_at, same_by, same_trans, same_after, put_canonical, put_from, held_put}
 
-module _ {V : Type 0} {eq : V → V → Bool} (laws : Equality eq) (l h : ℕ) (m : Option V → Option V) where
+module _ {V : Type 0} {eq : V → V → Bool} (laws : IsEquivalence eq) (l h : ℕ) (m : Option V → Option V) where
   -- a change seen at other names of what is held
   alters_at : {p : ℕ} {a b x y : Option V} → x ≡ a → y ≡ b → Alters eq l h m p a b → Alters eq l h m p x y
   alters_at e f a = record {

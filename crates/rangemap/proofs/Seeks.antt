@@ -1,4 +1,5 @@
 -- The key stands alone: nothing stored is connected to it. Assumes nothing.
+use Rattle.std.specs.Cmp.{IsEquivalence}
 use Rattle.std.proofs.Common.{◌≡◌, ℕ, suc, ◌<◌, ◌≤◌, Bool, List, ◌++◌, take, drop, Some, None, Option, sym, refl, ap, ◌∙◌, subst, arith}
 use Rattle.std.proofs.lemmas.List.{take-append-drop}
 use Rattle.std.specs.List.{insert}
@@ -8,7 +9,6 @@ use Rattle.lawful.specs.declared.key.Key.{Ghosts}
 use Rattle.rangemap.specs.Ranges.{lo, hi}
 use Rattle.rangemap.specs.Items.{Free, span_of, spans}
 use Rattle.rangemap.specs.Ranges.{Full}
-use Rattle.lawful.specs.Equals.{Equality}
 use Rattle.ledger.specs.Spans.{held}
 use Rattle.rangemap.specs.Spans.{Same, Tight, put_made, Changed}
 use Rattle.rangemap.proofs.Held.{canonical_right, ends_like, from_less, held_before, meets_apart}
@@ -17,7 +17,7 @@ use Rattle.rangemap.proofs.Put.{put_apart, same_at}
 use Rattle.rangemap.proofs.Rests.{alters_inside, rest_start, rest_made, rest_end}
 
 -- The key stands alone: what is made of none is put, if it is a value.
-module _ {K V : Type 0} (g : Ghosts K) {eq : V → V → Bool} (laws : Equality eq) (key : AnyRange K) (full : Full g key) (m : Option V → Option V) (xs : List (Item K V)) (addr : ℕ) (canonical : Tight eq (spans g xs)) (free : Free g key xs addr) where
+module _ {K V : Type 0} (g : Ghosts K) {eq : V → V → Bool} (laws : IsEquivalence eq) (key : AnyRange K) (full : Full g key) (m : Option V → Option V) (xs : List (Item K V)) (addr : ℕ) (canonical : Tight eq (spans g xs)) (free : Free g key xs addr) where
   pub change_free : (made : Option V) → Same eq made (m None) → Changed eq (lo g key) (hi g key) m (spans g xs) (take addr (spans g xs) ++ put_made eq (lo g key) (hi g key) made (drop addr (spans g xs)))
   change_free made same =
       let whole = take-append-drop addr (spans g xs) in

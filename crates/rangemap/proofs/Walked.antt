@@ -58,14 +58,20 @@ length_split low high x zs lt a b =
     let n = ap length (piece_there (max x.low high) x.high x.value zs (omega arith)) in
     omega (arith, m, n)
 
-module _ {K V : Type 0} (keys : Ghosts K) (low high : ℕ) (lt : low < high) (old : List (Item K V)) (from : ℕ) (within : from < length old) (found : Rising (spans keys old) → Last 0 low high (spans keys old) from) where
+-- what the walk begins with: a key that holds a place, and the last item that shares one with it
+pub record Begun {K V : Type 0} (keys : Ghosts K) (low high : ℕ) (old : List (Item K V)) (from : ℕ) : Type 0 where
+  pub full : low < high
+  pub within : from < length old
+  pub found : Rising (spans keys old) → Last 0 low high (spans keys old) from
+
+module _ {K V : Type 0} {keys : Ghosts K} {low high : ℕ} {old : List (Item K V)} {from : ℕ} (begun : Begun keys low high old from) where
   later : Rising (spans keys old) → AllByRecursion (λ x. high ≤ x.low) (drop (from + 1) (spans keys old))
-  later r = All-weaker (λ x. high + 0 ≤ x.low) (λ x. high ≤ x.low) (λ x e. omega arith) (drop (from + 1) (spans keys old)) (found r).later
+  later r = All-weaker (λ x. high + 0 ≤ x.low) (λ x. high ≤ x.low) (λ x e. omega arith) (drop (from + 1) (spans keys old)) (begun.found r).later
 
   -- the cut leaves what stands behind the found span
   cut_later : Rising (spans keys old) → cut low high (drop (from + 1) (spans keys old)) ≡ drop (from + 1) (spans keys old)
   cut_later (count, r) =
-      cut_above low high (drop (from + 1) (spans keys old)) lt (All-drop (λ x. x.low < x.high) (from + 1) (spans keys old) (all_full 0 count (spans keys old) r)) (later (count, r))
+      cut_above low high (drop (from + 1) (spans keys old)) begun.full (All-drop (λ x. x.low < x.high) (from + 1) (spans keys old) (all_full 0 count (spans keys old) r)) (later (count, r))
 
   pub walked_first : Walked keys low high old old from from
   walked_first =
@@ -75,9 +81,9 @@ module _ {K V : Type 0} (keys : Ghosts K) (low high : ℕ) (lt : low < high) (ol
         cutting = λ r. sym (take-append-drop (from + 1) (spans keys old)) ∙ ap (λ ys. take (from + 1) (spans keys old) ++ ys) (sym (cut_later r));
       }
 
-  module _ (xs : List (Item K V)) (addr : ℕ) (w : Walked keys low high old xs from addr) (d : Span V) where
+  module _ {xs : List (Item K V)} {addr : ℕ} (w : Walked keys low high old xs from addr) (d : Span V) where
     inside : addr < length (spans keys old)
-    inside = omega (arith, length-map old (span_at keys), w.back)
+    inside = omega (arith, length-map old (span_at keys), begun.within, w.back)
 
     is : Rising (spans keys old) → get_or (spans keys xs) addr d ≡ get_or (spans keys old) addr d
     is r = stood low high (spans keys old) (spans keys xs) addr d inside (w.cutting r)
@@ -105,7 +111,7 @@ module _ {K V : Type 0} (keys : Ghosts K) (low high : ℕ) (lt : low < high) (ol
         let p = parts 0 count (spans keys old) addr d inside r in
         let h = ap (λ x. x.low) (is (count, r)) in
         let b = ends_earlier 0 low 0 (get_or (spans keys old) addr d).low (take addr (spans keys old)) (omega (arith, a d, h)) p.front in
-        cutting_all low high lt (spans keys old) (spans keys ys) addr (count, r) (All-weaker (λ x. x.high + 0 ≤ low) (λ x. x.high ≤ low) (λ x e. omega arith) (take addr (spans keys old)) b)
+        cutting_all low high begun.full (spans keys old) (spans keys ys) addr (count, r) (All-weaker (λ x. x.high + 0 ≤ low) (λ x. x.high ≤ low) (λ x e. omega arith) (take addr (spans keys old)) b)
         (given ys g (count, r))
 
     -- each span up to the found one starts before the key's end
@@ -113,7 +119,7 @@ module _ {K V : Type 0} (keys : Ghosts K) (low high : ℕ) (lt : low < high) (ol
     starts (count, r) = go (cases_lt addr from)
       where
         h : (get_or (spans keys old) from d).low < high
-        h = omega (arith, ((found (count, r)).here d).0)
+        h = omega (arith, ((begun.found (count, r)).here d).0)
 
         go : (addr < from) ⊎ (from ≤ addr) → (get_or (spans keys old) addr d).low < high
         go (inl k) =
@@ -134,7 +140,7 @@ module _ {K V : Type 0} (keys : Ghosts K) (low high : ℕ) (lt : low < high) (ol
             absurd (z (omega (arith, p.here, a, b)) (omega (arith, starts r, a), omega (arith, b)))
         go (inr k) =
             let b = all_earlier 0 low (spans keys old) addr inside (at_one (λ x. x.high + 0 ≤ low) (spans keys old) addr d inside (omega arith)) r in
-            cutting_all low high lt (spans keys old) (spans keys xs) (addr + 1) r
+            cutting_all low high begun.full (spans keys old) (spans keys xs) (addr + 1) r
             (All-weaker (λ x. x.high + 0 ≤ low) (λ x. x.high ≤ low) (λ x e. omega arith) (take (addr + 1) (spans keys old)) b) (w.cutting r)
 
     -- the same of the item that was read
@@ -160,7 +166,7 @@ module _ {K V : Type 0} (keys : Ghosts K) (low high : ℕ) (lt : low < high) (ol
             go : (addr < from) ⊎ (from ≤ addr) → addr ≡ from
             go (inl k) =
                 let o = rises_order count (spans keys old) addr from d k (omega (arith, length-map old (span_at keys))) r in
-                let z : ⊥ = omega (arith, high_is, ((found (count, r)).here d).0) in absurd z
+                let z : ⊥ = omega (arith, high_is, ((begun.found (count, r)).here d).0) in absurd z
             go (inr k) = omega (arith, w.back)
 
         -- before, at and behind the found span
@@ -170,13 +176,13 @@ module _ {K V : Type 0} (keys : Ghosts K) (low high : ℕ) (lt : low < high) (ol
             let x : Span V = get_or (spans keys old) addr d in
             let back : List (Span V) = drop (addr + 1) (spans keys old) in
             let b = ends_earlier 0 low 0 x.low (take addr (spans keys old)) (omega (arith, low_is)) p.front in
-            let f = cut_below low high (take addr (spans keys old)) lt (All-take (λ x. x.low < x.high) addr (spans keys old) (all_full 0 count (spans keys old) r))
+            let f = cut_below low high (take addr (spans keys old)) begun.full (All-take (λ x. x.low < x.high) addr (spans keys old) (all_full 0 count (spans keys old) r))
             (All-weaker (λ x. x.high + 0 ≤ low) (λ x. x.high ≤ low) (λ x e. omega arith) (take addr (spans keys old)) b) in
             let e : spans keys old ≡ take addr (spans keys old) ++ x ∷ back = sym (take-append-drop addr (spans keys old)) ∙ ap (λ ys. take addr (spans keys old) ++ ys) (drop_more (spans keys old) addr d inside) in
             let c : cut low high back ≡ back = subst (λ n. cut low high (drop (n + 1) (spans keys old)) ≡ drop (n + 1) (spans keys old)) (sym same) (cut_later (count, r)) in
             let h : cut low high (spans keys old) ≡ take addr (spans keys old) ++ cut_span low high x back =
             ap (cut low high) e ∙ (cut-++ low high (take addr (spans keys old)) (x ∷ back) ∙ ap₂ (λ (us ws : List (Span V)). us ++ cut_span low high x ws) f c) in
-            let s = length_split low high x back lt low_is high_is in
+            let s = length_split low high x back begun.full low_is high_is in
             let m = ap length h ∙ length-append (take addr (spans keys old)) (cut_span low high x back) in
             let k = ap length e ∙ length-append (take addr (spans keys old)) (x ∷ back) in
             omega arith

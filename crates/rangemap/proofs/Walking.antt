@@ -1,5 +1,5 @@
 -- Steps of the walkers.
-use Rattle.std.proofs.Common.{◌≡◌, ℕ, zero, suc, ◌+◌, ◌<◌, ◌≤◌, ltb, ◌⊎◌, List, [], ◌∷◌, ◌++◌, length, get_or, take, drop, vec_items, vec_len, sym, refl, ap, ◌∙◌, subst, inl, inr, arith}
+use Rattle.std.proofs.Common.{◌≡◌, ℕ, zero, suc, ◌+◌, ◌<◌, ◌≤◌, ltb, ◌⊎◌, List, [], ◌∷◌, ◌++◌, length, get_or, take, drop, sym, refl, ap, ◌∙◌, subst, inl, inr, arith}
 use Rattle.std.specs.List.{AllByRecursion}
 use Rattle.std.proofs.lemmas.List.{drop_all, drop_more, take_all, append_assoc, append-nil}
 use Rattle.std.proofs.ByRecursion.{All-weaker, All-drop}
@@ -7,11 +7,11 @@ use Rattle.std.proofs.lemmas.Bool.{cases_lt, lt-ltb, le-ltb, cond-true, cond-fal
 use Rattle.ledger.proofs.Lists.{rises_from}
 use Rattle.ledger.specs.Spans.{Span, Gap, Rises}
 use Rattle.rangemap.specs.declared.item.Item.{Item}
-use Rattle.rangemap.specs.declared.map.RangeMap.{RangeMap}
+use Rattle.rangemap.specs.declared.store.Store.{Store}
 use Rattle.rangemap.specs.Items.{spans}
-use Rattle.rangemap.specs.Maps.{stored, RisesIn, Ready}
+use Rattle.rangemap.specs.Maps.{stored}
 use Rattle.rangemap.specs.Search.{Last, Stands, Splits}
-use Rattle.rangemap.specs.Walks.{past, end, Moved, Stays}
+use Rattle.rangemap.specs.Walks.{past, end}
 use Rattle.rangemap.proofs.Rising.{parts, ends_earlier, ends_later, all_full, all_both}
 use Rattle.ranges.specs.Parts.{span as ends}
 use Rattle.lawful.specs.declared.key.Key.{Ghosts}
@@ -105,40 +105,26 @@ module _ {V : Type 0} (count p : ℕ) (xs : List (Span V)) (r : Rises 0 count xs
             (All-drop (λ x. x.low < x.high) i xs (all_full 0 count xs r)) s.later;
       }
 
-module _ {K V : Type 0} (keys : Ghosts K) (m : RangeMap K V) (p l i : ℕ) (s : RisesIn keys m → Splits p (stored keys m) i) where
+module _ {K V : Type 0} (keys : Ghosts K) (m : Store K V) (rises : Rises 0 keys.COUNT (stored keys m)) (p i : ℕ) (s : Splits p (stored keys m) i) where
   -- nothing is left past the place
-  pub ranges_end : vec_len m.items ≤ i → Stays (end keys) (Ready keys m) (vec_items m.items) p l p l
-  ranges_end n =
-      record { place = refl; left = refl; none = λ y. past_splits keys p (vec_items m.items) i (s y.1) ∙ drop_all i (vec_items m.items) (omega (arith, m.items.ok.0)) }
+  pub ranges_none : length m.items.items ≤ i → past (end keys) p m.items.items ≡ []
+  ranges_none n = past_splits keys p m.items.items i s ∙ drop_all i m.items.items (omega arith)
 
-  module _ (x : Item K V) (n : i < vec_len m.items) (e : x ≡ get_or (vec_items m.items) i x) where
+  module _ (x : Item K V) (n : i < length m.items.items) (e : x ≡ get_or m.items.items i x) where
     -- the range at i ends past the place, and at the last place or earlier
-    in_reach : Ready keys m (p + l) → (p < (ends keys x.key).high) × ((ends keys x.key).high ≤ p + l)
-    in_reach (t, r) =
-        let h = subst (λ ys. AllByRecursion (λ y. p < y.high) ys) (drop_listed keys m i x n e) (s r).later in
-        let q = parts_listed keys m i x n e r in
-        (h.0, omega (arith, rises_from (ends keys x.key).high keys.count _ q.back))
+    pub ranges_reach : (p < end keys x) × (end keys x ≤ keys.COUNT)
+    ranges_reach =
+        let h = subst (λ ys. AllByRecursion (λ y. p < y.high) ys) (drop_listed keys m i x n e) s.later in
+        let q = parts_listed keys m i x n e rises in
+        (h.0, rises_from (ends keys x.key).high keys.COUNT _ q.back)
 
     -- the range at i is next
-    next_at : (k : ℕ) → (k < l) × ((ends keys x.key).high + k ≡ p + l) → Moved (end keys) (Ready keys m) (vec_items m.items) p l x (ends keys x.key).high k
-    next_at k (a, b) =
-        record {
-          falls = a;
-          total = b;
-          moves = refl;
-          next = λ y.
-              let xs = vec_items m.items in
-              let f : past (end keys) p xs ≡ x ∷ drop (i + 1) xs =
-              past_splits keys p xs i (s y.1) ∙ (drop_more xs i x (omega (arith, m.items.ok.0)) ∙ ap (λ (y : Item K V). y ∷ drop (i + 1) xs) (sym e)) in
-              f ∙ ap (λ ys. x ∷ ys) (sym (past_next (end keys) 0 p xs x (drop (i + 1) xs) (climbs_spans keys 0 keys.count xs y.1) f).1);
-        }
-
-    pub ranges_next : (q k : ℕ) → q ≡ end keys x → (k < l) × (q + k ≡ p + l) → Moved (end keys) (Ready keys m) (vec_items m.items) p l x q k
-    ranges_next q k f = subst (λ (n : ℕ). (k < l) × (n + k ≡ p + l) → Moved (end keys) (Ready keys m) (vec_items m.items) p l x n k) (sym f) (next_at k)
-
-    -- and its end is in reach
-    pub ranges_stuck : (q : ℕ) → q ≡ end keys x → (p < q → q ≤ p + l → ⊥) → Stays (end keys) (Ready keys m) (vec_items m.items) p l p l
-    ranges_stuck q f z = record { place = refl; left = refl; none = λ y. let h = in_reach y in absurd (z (omega (arith, f, h.0)) (omega (arith, f, h.1))) }
+    pub ranges_next : past (end keys) p m.items.items ≡ x ∷ past (end keys) (end keys x) m.items.items
+    ranges_next =
+        let xs = m.items.items in
+        let f : past (end keys) p xs ≡ x ∷ drop (i + 1) xs =
+        past_splits keys p xs i s ∙ (drop_more xs i x (omega arith) ∙ ap (λ (y : Item K V). y ∷ drop (i + 1) xs) (sym e)) in
+        f ∙ ap (λ ys. x ∷ ys) (sym (past_next (end keys) 0 p xs x (drop (i + 1) xs) (climbs_spans keys 0 keys.COUNT xs rises) f).1)
 
 -- a loop that gathers what a walker hands out
 module _ {X : Type 0} (high : X → ℕ) (xs : List X) where

@@ -1,14 +1,14 @@
 -- The turns of a backward walk.
+use Rattle.std.specs.Cmp.{IsEquivalence}
 use Rattle.std.proofs.Common.{◌≡◌, ℕ, ◌+◌, ◌<◌, ◌≤◌, Bool, true, List, [], ◌∷◌, ◌++◌, length, get_or, take, drop, Some, Option, sym, refl, ap, ◌∙◌, subst, arith}
 use Rattle.std.proofs.lemmas.List.{append_assoc, get_or_at, take-append-drop, take_at, drop_at, length-append, length-take-le, take_more, drop_more}
-use Rattle.lawful.specs.Equals.{Equality}
 use Rattle.ledger.specs.Spans.{Span}
 use Rattle.rangemap.specs.Spans.{span, Leads, Tight, From, Ends, put, put_at, Rest, Changed, Walk, Turn}
 use Rattle.rangemap.proofs.Held.{canonical_right, ends_last}
 use Rattle.rangemap.proofs.Rests.{rest_start, rest_drop, rest_cut}
 use Rattle.rangemap.proofs.Inserts.{insert_clear, insert_split, insert_joined}
 
-module _ {V : Type 0} {eq : V → V → Bool} (laws : Equality eq) (l h : ℕ) (m : Option V → Option V) (le : l ≤ h) where
+module _ {V : Type 0} {eq : V → V → Bool} (laws : IsEquivalence eq) (l h : ℕ) (m : Option V → Option V) (le : l ≤ h) where
   -- the walk begins at s
   pub walk_start : (old : List (Span V)) (addr : ℕ) (s : Span V) → Tight eq old → addr < length old → s ≡ get_or old addr s → s.low ≤ h → l ≤ s.high → From h (drop (addr + 1) old) → (w : Walk eq l h m h old old addr s) × From h w.back
   walk_start old addr s canonical lt read low high from =
@@ -31,7 +31,7 @@ module _ {V : Type 0} {eq : V → V → Bool} (laws : Equality eq) (l h : ℕ) (
       )
 
 -- The walk stands at s.
-module _ {V : Type 0} {eq : V → V → Bool} (laws : Equality eq) (l h : ℕ) (m : Option V → Option V) (le : l ≤ h) (b : ℕ) (old now : List (Span V)) (addr : ℕ) (s : Span V) (w : Walk eq l h m b old now addr s) where
+module _ {V : Type 0} {eq : V → V → Bool} {l h : ℕ} {m : Option V → Option V} {b : ℕ} {old now : List (Span V)} {addr : ℕ} {s : Span V} (w : Walk eq l h m b old now addr s) where
   pub walk_reads : (d : Span V) → get_or now addr d ≡ s
   walk_reads d = ap (λ ss. get_or ss addr d) w.is ∙ get_or_at w.front s w.rest d addr w.index
 
@@ -47,16 +47,6 @@ module _ {V : Type 0} {eq : V → V → Bool} (laws : Equality eq) (l h : ℕ) (
   pub walk_done : Rest eq l h m b w.back (drop (addr + 1) now)
   walk_done = subst (Rest eq l h m b w.back) (sym rest_is) w.done
 
-  -- s ends by b, and is done with
-  pub walk_whole : s.high ≤ b → Rest eq l h m b (s ∷ w.back) (drop (addr + 1) now)
-  walk_whole within = rest_drop laws l h m b s w.back (drop (addr + 1) now) within walk_done
-
-  -- s passes b, and keeps what it has from there on
-  pub walk_cut : b < s.high → Rest eq l h m b (s ∷ w.back) (span b s.high s.value ∷ drop (addr + 1) now)
-  walk_cut past =
-      let leads = w.leads past in
-      rest_cut laws l h m b s w.back (drop (addr + 1) now) le (omega (arith, leads.0)) w.low past (subst (Leads eq s.high s.value) (sym rest_is) leads.1) walk_done
-
   pub turn_from : (c : ℕ) (next zs : List (Span V)) (j : ℕ) → s.low ≤ c → take addr next ≡ take addr now → drop j next ≡ zs → Rest eq l h m c (s ∷ w.back) zs → Turn eq l h m c s old next addr j
   turn_from c next zs j low same tail rest =
       let front : take addr next ≡ w.front = same ∙ ap (take addr) w.is ∙ take_at w.front (s ∷ w.rest) addr w.index in
@@ -69,8 +59,19 @@ module _ {V : Type 0} {eq : V → V → Bool} (laws : Equality eq) (l h : ℕ) (
         done = subst (Rest eq l h m c (s ∷ w.back)) (sym tail) rest;
       }
 
+module _ {V : Type 0} {eq : V → V → Bool} (laws : IsEquivalence eq) {l h : ℕ} {m : Option V → Option V} {b : ℕ} {old now : List (Span V)} {addr : ℕ} {s : Span V} (w : Walk eq l h m b old now addr s) where
+  -- s ends by b, and is done with
+  pub walk_whole : s.high ≤ b → Rest eq l h m b (s ∷ w.back) (drop (addr + 1) now)
+  walk_whole within = rest_drop laws l h m b s w.back (drop (addr + 1) now) within (walk_done w)
+
+  -- s passes b, and keeps what it has from there on
+  pub walk_cut : l ≤ h → b < s.high → Rest eq l h m b (s ∷ w.back) (span b s.high s.value ∷ drop (addr + 1) now)
+  walk_cut le past =
+      let leads = w.leads past in
+      rest_cut laws l h m b s w.back (drop (addr + 1) now) le (omega (arith, leads.0)) w.low past (subst (Leads eq s.high s.value) (sym (rest_is w)) leads.1) (walk_done w)
+
 -- The span x right before the one that is done with.
-module _ {V : Type 0} {eq : V → V → Bool} (l h : ℕ) (m : Option V → Option V) (b : ℕ) (s x : Span V) (old now : List (Span V)) (addr j prev : ℕ) (t : Turn eq l h m b s old now addr j) (canonical : Tight eq old) (step : prev + 1 ≡ addr) (lt : prev < length now) (read : x ≡ get_or now prev x) where
+module _ {V : Type 0} {eq : V → V → Bool} {l h : ℕ} {m : Option V → Option V} {b : ℕ} {s : Span V} (x : Span V) {old now : List (Span V)} {addr j : ℕ} (prev : ℕ) (t : Turn eq l h m b s old now addr j) (canonical : Tight eq old) (step : prev + 1 ≡ addr) (lt : prev < length now) (read : x ≡ get_or now prev x) where
   front_is : take addr now ≡ take prev now ++ x ∷ []
   front_is = ap (λ k. take k now) (sym step) ∙ take_more now prev x lt ∙ ap (λ y. take prev now ++ y ∷ []) (sym read)
 
@@ -109,7 +110,7 @@ module _ {V : Type 0} {eq : V → V → Bool} (l h : ℕ) (m : Option V → Opti
   )
 
 -- The ends of the walk of `insert`.
-module _ {V : Type 0} {eq : V → V → Bool} (laws : Equality eq) (l h : ℕ) (v : V) (full : l < h) (s : Span V) (old now : List (Span V)) (addr j : ℕ) (t : Turn eq l h (λ _. Some v) h s old now addr j) (canonical : Tight eq old) where
+module _ {V : Type 0} {eq : V → V → Bool} (laws : IsEquivalence eq) {l h : ℕ} (v : V) (full : l < h) {s : Span V} {old now : List (Span V)} {addr j : ℕ} (t : Turn eq l h (λ _. Some v) h s old now addr j) (canonical : Tight eq old) where
   split : Tight eq (take addr now ++ s ∷ t.back)
   split = subst (Tight eq) t.was canonical
 
@@ -130,11 +131,3 @@ module _ {V : Type 0} {eq : V → V → Bool} (laws : Equality eq) (l h : ℕ) (
       let done = subst (λ zs. Changed eq l h (λ _. Some v) zs (take addr now ++ put eq (span s.low l s.value) (put eq (span l h v) (drop j now)))) (sym t.was) (insert_split laws l h v full (take addr now) s t.back (drop j now) split low t.high t.done) in
       subst (λ ys. Changed eq l h (λ _. Some v) old (ys ++ put eq (span s.low l s.value) (drop addr (put_at eq now addr j (span l h v))))) (sym front)
       (subst (λ ys. Changed eq l h (λ _. Some v) old (take addr now ++ put eq (span s.low l s.value) ys)) (sym tail) done)
-
--- A list whose end at an index is a span put before what followed.
-module _ {V : Type 0} {eq : V → V → Bool} (laws : Equality eq) (now next : List (Span V)) (addr j : ℕ) (x : Span V) (le : addr ≤ length now) (edit : next ≡ put_at eq now addr j x) where
-  pub put_at_front : take addr next ≡ take addr now
-  put_at_front = ap (take addr) edit ∙ take_at (take addr now) (put eq x (drop j now)) addr (length-take-le addr now le)
-
-  pub put_at_tail : drop addr next ≡ put eq x (drop j now)
-  put_at_tail = ap (drop addr) edit ∙ drop_at (take addr now) (put eq x (drop j now)) addr (length-take-le addr now le)

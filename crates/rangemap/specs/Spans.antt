@@ -1,7 +1,8 @@
 -- Stretches of places with a value each, and what a list of them says of each place.
-use Rattle.std.specs.Prelude.{◌≡◌, ℕ, ◌<◌, ◌≤◌, min, max, Bool, true, false, cond, ◌&&◌, List, [], ◌∷◌, ◌++◌, length, take, drop, Some, None, Option, nat_le, nat_lt}
+use Rattle.std.specs.Prelude.{◌≡◌, ℕ, ◌<◌, ◌≤◌, min, max, Bool, true, false, cond, ◌&&◌, List, [], ◌∷◌, ◌++◌, length, take, drop, Some, None, Option}
 use Rattle.lawful.specs.Equals.{same}
 use Rattle.ledger.specs.Spans.{Span, held}
+use Rattle.ranges.specs.Ranges.{connects}
 
 abbrev pub span : {V : Type 0} → ℕ → ℕ → V → Span V
 span l h v = record { low = l; high = h; value = v }
@@ -41,9 +42,9 @@ Meets eq [] ys = Unit {0}
 Meets eq (s ∷ []) ys = Leads eq s.high s.value ys
 Meets eq (s ∷ t ∷ ss) ys = Meets eq (t ∷ ss) ys
 
--- Two ranges hold a place each, and they share one or touch.
-abbrev pub connects : ℕ → ℕ → ℕ → ℕ → Bool
-connects l h a b = nat_lt l h && (nat_lt a b && (nat_le l b && nat_le a h))
+-- Two spans hold a place each, and they share one or touch.
+abbrev pub near : {V : Type 0} → Span V → Span V → Bool
+near s t = connects (record { low = s.low; high = s.high }) (record { low = t.low; high = t.high })
 
 -- One span in the place of both, with the value of t.
 abbrev pub joined : {V : Type 0} → Span V → Span V → Span V
@@ -52,7 +53,7 @@ joined s t = span (min t.low s.low) (max t.high s.high) t.value
 -- The list with s in front, joined to the first span where they are connected at equal values.
 abbrev pub put : {V : Type 0} → (V → V → Bool) → Span V → List (Span V) → List (Span V)
 put eq s [] = s ∷ []
-put eq s (t ∷ ts) = cond (connects s.low s.high t.low t.high && eq s.value t.value) (joined s t ∷ ts) (s ∷ t ∷ ts)
+put eq s (t ∷ ts) = cond (near s t && eq s.value t.value) (joined s t ∷ ts) (s ∷ t ∷ ts)
 
 -- The list from i to before j gives way to s, which is put before what follows.
 abbrev pub put_at : {V : Type 0} → (V → V → Bool) → List (Span V) → ℕ → ℕ → Span V → List (Span V)

@@ -1,7 +1,11 @@
-// The map: items in rising order, in memory that was set aside when the map was made.
-ghost use Rattle.std.specs.Prelude.{◌+◌, ◌*◌, ◌≤◌, vec_len, vec_capacity};
+// The map: ranges in rising order, in memory that was set aside when the map was made.
+ghost use Rattle.std.specs.Prelude.{◌≤◌};
+ghost use Rattle.ledger.specs.Spans.{Canonical};
+ghost use Rattle.rangemap.specs.CanonicalLemmas.{Canonical-prop};
+ghost use Rattle.rangemap.specs.Items.{listed};
 
-use super::item::Item;
+use super::store::Store;
+use lawful::{Key, Value};
 
 mod changes;
 mod making;
@@ -9,13 +13,9 @@ mod reads;
 pub(crate) mod walkers;
 
 #[derive(Drop)]
-pub struct RangeMap<K, V> {
-    items: Vec<Item<K, V>>,
-    // where a change is walked before it is accepted
-    work: Vec<Item<K, V>>,
-    slots: usize,
-    ghost few: { vec_len items ≤ slots },
-    ghost limited: { slots ≤ 4096 },
-    ghost roomy: { 2 * slots + 2 ≤ vec_capacity items },
-    ghost spare: { 2 * slots + 2 ≤ vec_capacity work },
+pub struct RangeMap<K: Key, V: Value> {
+    store: Store<K, V>,
+    ghost limited: { store.slots ≤ 4096 },
+    // the stored ranges rise, each holds a key, and those that touch have unequal values
+    ghost canonical: { Canonical V.eq K.COUNT (listed K.Key store.items) } by { Canonical-prop V.eq K.COUNT (listed K.Key store.items) },
 }

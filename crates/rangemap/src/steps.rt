@@ -1,102 +1,80 @@
-// The steps of a backward walk at one index.
-ghost use Rattle.std.specs.Prelude.{◌≡◌, ◌+◌, ◌-◌, ◌<◌, ◌≤◌, ◌++◌, take, drop, if◌then◌else◌, vec_len, vec_capacity, MatchOption, MatchResult, slice_index_or};
-ghost use Rattle.rangemap.specs.Items.{Found, Free, listed, span_of};
-ghost use Rattle.rangemap.specs.Ranges.{Connected, Full, lo, hi};
-ghost use Rattle.rangemap.specs.Spans.{Tight, put_at, put_made};
+// The steps of a backward walk at one address.
+ghost use Rattle.std.specs.Prelude.{◌≡◌, ◌+◌, ◌-◌, ◌<◌, ◌≤◌, drop, length, set, MatchOption, MatchResult, slice_index_or};
+ghost use Rattle.rangemap.specs.Contents.{HasRoom};
+ghost use Rattle.rangemap.specs.Items.{ConnectedAt, Found, Free, listed, tail_after, tail_made};
+ghost use Rattle.rangemap.specs.Ranges.{Connected};
+ghost use Rattle.rangemap.specs.Search.{Index};
+ghost use Rattle.rangemap.specs.Spans.{Tight};
+ghost use Rattle.rangemap.specs.Spots.{Steps, address, more, next};
 
-use super::address::*;
+use super::held_range::HeldRange;
 use super::item::Item;
-use super::range::*;
+use super::items::Items;
 use super::search::address;
-use super::writes::*;
+use super::spot::Spot;
 use lawful::{Key, Value};
-use ranges::AnyRange;
+use ranges::{AnyRange, ProductArg};
 
-// The index of the last item that shares a key with the given range, else of the last that touches it; else where it would stand.
-pub(crate) fn address_of<K: Key, V: Value>(
-    items: &Vec<Item<K, V>>,
-    key: AnyRange<K>,
-) -> Result<usize, usize>
-    requires full { Full K.Key key }
-    ensures within { MatchResult result (λ i. i < vec_len items.now) (λ i. i ≤ vec_len items.now) }
-    ensures found { Tight V.Value.equals (listed K.Key items.now) → MatchResult result (λ i. Found K.Key key items.now.items i) (λ i. Free K.Key key items.now.items i) }
-{
-    address(items, key, true)
-}
-
-// Puts an item before the one at addr if that is kept, else in its place.
-pub(crate) fn put_item<K: Key, V: Value>(
-    items: &mut Vec<Item<K, V>>,
-    addr: usize,
-    kept: bool,
-    range: AnyRange<K>,
-    value: V,
-)
-    requires within { addr < vec_len items.old }
-    requires roomy { vec_len items.old < vec_capacity items.old }
-    ensures spans { listed K.Key items.new ≡ put_at V.Value.equals (listed K.Key items.old) addr (if kept then addr else addr + 1) (span_of K.Key range value) }
-    ensures within { addr < vec_len items.new }
-    ensures len { vec_len items.new + (if kept then 0 else 1) ≤ vec_len items.old + 1 }
-    ensures capacity { vec_capacity items.new ≡ vec_capacity items.old }
-{
-    if kept {
-        insert_item(items, addr, range, value);
-    } else {
-        set_item(items, addr, range, value);
+impl<K: Key, V: Value> Items<K, V> {
+    // `search::address` in the words of the walks: of a tight list, where the map's own call speaks of a canonical one.
+    // The address of the last item that shares a key with the given range, else of the last that touches it; else where it would stand.
+    pub(crate) fn address_of(&self, key: &HeldRange<K>) -> Result<usize, usize>
+        ensures within { Index (length self.now.items) result }
+        ensures found { Tight V.eq (listed K.Key.own self.now) → MatchResult result (Found K.Key.own key.now.range self.now.items) (Free K.Key.own key.now.range self.now.items) }
+    {
+        address(self.as_slice(), key, true)
     }
-}
 
-// Puts what was made of a range, if it is a value, and says whether the item at addr now stands.
-pub(crate) fn put_made<K: Key, V: Value>(
-    items: &mut Vec<Item<K, V>>,
-    addr: usize,
-    kept: bool,
-    range: AnyRange<K>,
-    made: Option<V>,
-) -> bool
-    requires within { addr < vec_len items.old }
-    requires roomy { vec_len items.old < vec_capacity items.old }
-    ensures front { take addr (listed K.Key items.new) ≡ take addr (listed K.Key items.old) }
-    ensures tail { drop (if result then addr else addr + 1) (listed K.Key items.new) ≡ put_made V.Value.equals (lo K.Key range) (hi K.Key range) made (drop (if kept then addr else addr + 1) (listed K.Key items.old)) }
-    ensures within { addr < vec_len items.new }
-    ensures len { vec_len items.new + (if kept then 0 else 1) ≤ vec_len items.old + 1 }
-    ensures capacity { vec_capacity items.new ≡ vec_capacity items.old }
-{
-    let Some(value) = made else {
-        return kept;
-    };
-    put_item(items, addr, kept, range, value);
-    true
-}
-
-// Removes the item at addr unless it is kept.
-pub(crate) fn drop_item<K: Key, V: Value>(items: &mut Vec<Item<K, V>>, addr: usize, kept: bool)
-    requires within { addr < vec_len items.old }
-    ensures spans { listed K.Key items.new ≡ take addr (listed K.Key items.old) ++ drop (if kept then addr else addr + 1) (listed K.Key items.old) }
-    ensures len { vec_len items.new ≤ vec_len items.old }
-    ensures least { vec_len items.old ≤ vec_len items.new + 1 }
-    ensures capacity { vec_capacity items.new ≡ vec_capacity items.old }
-{
-    if !kept {
-        let _ = remove_at(items, addr);
+    // Puts what was made of a part, if both are there.
+    pub(crate) fn put_made(&mut self, at: Spot, part: Option<AnyRange<K>>, made: Option<V>) -> Spot
+        requires within { address at < length self.old.items }
+        requires room { HasRoom 1 self.old }
+        ensures { Steps K.Key.own (more at) at self.old result self.new (tail_made K.Key.own V.eq made part (drop (next at) (listed K.Key.own self.old))) }
+    {
+        let (Some(range), Some(value)) = (part, made) else {
+            return at;
+        };
+        self.put_item(at, Item { key: range, value });
+        Spot::Kept(at.address())
     }
-}
 
-// The index before addr, if the item there is connected to the key.
-pub(crate) fn connected_before<K: Key, V: Value>(
-    items: &Vec<Item<K, V>>,
-    addr: usize,
-    key: AnyRange<K>,
-) -> Option<usize>
-    requires { addr ≤ vec_len items.now }
-    ensures { MatchOption result ((x : Item K V) → 0 < addr → x ≡ slice_index_or items.now.items (addr - 1) x → Connected K.Key x.key key → ⊥) (λ prev. (prev + 1 ≡ addr) × ((x : Item K V) → x ≡ slice_index_or items.now.items prev x → Connected K.Key x.key key)) }
-{
-    let Some(prev) = previous_item_address(addr) else {
-        return None;
-    };
-    if connected_to(&items[prev].key, &key) {
-        Some(prev)
-    } else {
-        None
+    // The item at addr keeps a part of its range.
+    fn keep_part(&mut self, addr: usize, part: Item<K, V>) -> Spot
+        requires { addr < length self.old.items }
+        ensures at { result ≡ Spot.Kept addr }
+        ensures items { self.new ≡ record self.old { items = set self.old.items addr part } }
+    {
+        self.set_at(addr, part);
+        Spot::Kept(addr)
+    }
+
+    // What follows the key stays with the item at addr; or what follows the item gets what was made of none.
+    pub(crate) fn settle_after(
+        &mut self,
+        addr: usize,
+        value: V,
+        after: Option<ProductArg<K>>,
+        blank: Option<V>,
+    ) -> Spot
+        requires within { addr < length self.old.items }
+        requires room { HasRoom 1 self.old }
+        ensures { Steps K.Key.own 0 (Spot.Spent addr) self.old result self.new (tail_after K.Key.own V.eq value blank after (drop (addr + 1) (listed K.Key.own self.old))) }
+    {
+        match after {
+            Some(ProductArg::Object(key)) => self.keep_part(addr, Item { key, value }),
+            Some(ProductArg::Subject(range)) => {
+                self.put_made(Spot::Spent(addr), Some(range), blank)
+            }
+            None => Spot::Spent(addr),
+        }
+    }
+
+    // The address before the spot, if the item there is connected to the key.
+    pub(crate) fn connected_before(&self, at: Spot, key: AnyRange<K>) -> Option<usize>
+        requires { address at < length self.now.items }
+        ensures { MatchOption result ((x : Item K V) → 0 < address at → x ≡ slice_index_or self.now.items (address at - 1) x → Connected K.Key.own x.key key → ⊥) (λ prev. (prev + 1 ≡ address at) × ConnectedAt K.Key.own key self.now.items prev) }
+    {
+        let prev = self.previous_item_address(at.address())?;
+        self.get_at(prev).key.connected_to(&key).then_some(prev)
     }
 }

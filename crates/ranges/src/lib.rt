@@ -4,5 +4,6 @@
 mod range;
 
 pub use range::{
-    AnyRange, BoundOrdering, Difference, Directed, Product, ProductArg, RangeOrdering,
+    AnyRange, BoundOrdering, Difference, Directed, Product, ProductArg, RangeOrdering, Side,
+    invert_bound,
 };

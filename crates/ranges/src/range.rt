@@ -1,56 +1,50 @@
 // What two ranges share, and what one has outside the other.
 ghost use Rattle.std.specs.Prelude.{◌≡◌};
 ghost use Rattle.ranges.specs.Places.{low, high};
-ghost use Rattle.ranges.specs.Ranges.{Same, shared, meets, connects, vacant, upto, onward};
-ghost use Rattle.ranges.specs.Parts.{span, ends, Cropped, Leaves, Multiplies};
+ghost use Rattle.ranges.specs.Ranges.{Same, shared, meets, connects, upto, onward};
+ghost use Rattle.ranges.specs.Parts.{span, Cropped, Leaves, Multiplies};
 
 mod any;
 mod bound;
 mod ordering;
 
 pub use any::AnyRange;
-pub use bound::Directed;
-use bound::{invert_bound, max_bound, min_bound};
+pub use bound::{Directed, Side, invert_bound};
+use bound::{max_bound, min_bound};
 use lawful::Key;
 pub use ordering::{BoundOrdering, RangeOrdering};
 use std::ops::Bound;
 
 impl<K: Key> AnyRange<K> {
-    // Whether the two share a key.
+    // Whether the two share a key. (This and the next are a line each, as in the Rust, over the answer of one comparison.)
     pub fn intersects(&self, other: &AnyRange<K>) -> bool
-        ensures { result ≡ meets (span K.Key self.now) (span K.Key other.now) }
+        ensures { result ≡ meets (span K.Key.own self.now) (span K.Key.own other.now) }
     {
-        matches!(
-            self.range_partial_cmp(other),
-            Some(RangeOrdering::Intersecting(_, _))
-        )
+        self.range_partial_cmp(other)
+            .is_some_and(|order| order.matches(false))
     }
 
     // Whether the two, both with keys, share one or touch.
     pub fn connected_to(&self, other: &AnyRange<K>) -> bool
-        ensures { result ≡ connects (span K.Key self.now) (span K.Key other.now) }
+        ensures { result ≡ connects (span K.Key.own self.now) (span K.Key.own other.now) }
     {
-        match self.range_partial_cmp(other) {
-            Some(RangeOrdering::Intersecting(_, _)) => true,
-            Some(RangeOrdering::Before(connected)) => connected,
-            Some(RangeOrdering::After(connected)) => connected,
-            None => false,
-        }
+        self.range_partial_cmp(other)
+            .is_some_and(|order| order.matches(true))
     }
 
     // The shared keys.
     pub fn intersected_with(&self, other: &AnyRange<K>) -> AnyRange<K>
-        ensures { Same (span K.Key result) (shared (span K.Key self.now) (span K.Key other.now)) }
+        ensures { Same (span K.Key.own result) (shared (span K.Key.own self.now) (span K.Key.own other.now)) }
     {
         AnyRange {
-            start: max_bound(self.start, other.start, true),
-            end: min_bound(self.end, other.end, false),
+            start: max_bound(self.start, other.start, Side::Start),
+            end: min_bound(self.end, other.end, Side::End),
         }
     }
 
     // The keys of this range outside the other.
     pub fn without(&self, other: &AnyRange<K>) -> Difference<K>
-        ensures { Leaves K.Key (span K.Key self.now) (span K.Key other.now) result }
+        ensures { Leaves K.Key.own (span K.Key.own self.now) (span K.Key.own other.now) result }
     {
         if self.is_empty() {
             return Difference::Empty;
@@ -58,7 +52,11 @@ impl<K: Key> AnyRange<K> {
         if other.is_empty() {
             return Difference::Before(*self);
         }
-        match (left_of(self, other.start), crop_left(self, other.end)) {
+        // an end at one place takes the form that the other start gives
+        let left = invert_bound(other.start)
+            .map(|end| min_bound(end, self.end, Side::End))
+            .and_then(|end| AnyRange::new(self.start, end).if_held());
+        match (left, crop_left(self, other.end)) {
             (Some(left), None) => Difference::Before(left),
             (None, Some(right)) => Difference::After(right),
             (Some(left), Some(right)) => Difference::Split(left, right),
@@ -68,7 +66,7 @@ impl<K: Key> AnyRange<K> {
 
     // The shared keys, and what either range has before and after them.
     pub fn product(&self, other: &AnyRange<K>) -> Product<K>
-        ensures { Multiplies K.Key (span K.Key self.now) (span K.Key other.now) result }
+        ensures { Multiplies K.Key.own (span K.Key.own self.now) (span K.Key.own other.now) result }
     {
         if self.is_empty() || other.is_empty() {
             return Product {
@@ -77,22 +75,13 @@ impl<K: Key> AnyRange<K> {
                 after: None,
             };
         }
-        let before = match crop_right(self, other.start) {
-            Some(self_before) => Some(ProductArg::Subject(self_before)),
-            None => match crop_right(other, self.start) {
-                Some(other_before) => Some(ProductArg::Object(other_before)),
-                None => None,
-            },
-        };
-        let shared = self.intersected_with(other);
-        let intersection = if_held(shared.start, shared.end);
-        let after = match crop_left(self, other.end) {
-            Some(self_after) => Some(ProductArg::Subject(self_after)),
-            None => match crop_left(other, self.end) {
-                Some(other_after) => Some(ProductArg::Object(other_after)),
-                None => None,
-            },
-        };
+        let before = crop_right(self, other.start)
+            .map(ProductArg::Subject)
+            .or_else(|| crop_right(other, self.start).map(ProductArg::Object));
+        let intersection = self.intersected_with(other).if_held();
+        let after = crop_left(self, other.end)
+            .map(ProductArg::Subject)
+            .or_else(|| crop_left(other, self.end).map(ProductArg::Object));
         Product {
             before,
             intersection,
@@ -103,46 +92,21 @@ impl<K: Key> AnyRange<K> {
 
 // What of the range lies above the other end, if any. A start at one place takes the form that the other end gives.
 fn crop_left<K: Key>(range: &AnyRange<K>, other_end: Bound<K>) -> Option<AnyRange<K>>
-    ensures { Cropped K.Key (onward (span K.Key range.now) (high K.Key other_end)) result }
+    ensures { Cropped K.Key.own (onward (span K.Key.own range.now) (high K.Key.own other_end)) result }
 {
-    if_held(
-        max_bound(invert_bound(other_end)?, range.start, true),
-        range.end,
-    )
+    let start = max_bound(invert_bound(other_end)?, range.start, Side::Start);
+    AnyRange::new(start, range.end).if_held()
 }
 
 // What of the range lies below the other start, if any. An end at one place keeps the range's own form.
 fn crop_right<K: Key>(range: &AnyRange<K>, other_start: Bound<K>) -> Option<AnyRange<K>>
-    ensures { Cropped K.Key (upto (span K.Key range.now) (low K.Key other_start)) result }
+    ensures { Cropped K.Key.own (upto (span K.Key.own range.now) (low K.Key.own other_start)) result }
 {
-    if_held(
-        range.start,
-        min_bound(range.end, invert_bound(other_start)?, false),
-    )
+    let end = min_bound(range.end, invert_bound(other_start)?, Side::End);
+    AnyRange::new(range.start, end).if_held()
 }
 
-// The same, but an end at one place takes the form that the other start gives.
-fn left_of<K: Key>(range: &AnyRange<K>, other_start: Bound<K>) -> Option<AnyRange<K>>
-    ensures { Cropped K.Key (upto (span K.Key range.now) (low K.Key other_start)) result }
-{
-    if_held(
-        range.start,
-        min_bound(invert_bound(other_start)?, range.end, false),
-    )
-}
-
-// The range of these ends, if it holds a key.
-fn if_held<K: Key>(start: Bound<K>, end: Bound<K>) -> Option<AnyRange<K>>
-    ensures { Cropped K.Key (ends K.Key start end) result }
-{
-    if is_range_empty(start, end) {
-        None
-    } else {
-        Some(AnyRange { start, end })
-    }
-}
-
-// Part of the answer of `product`: a part of the subject, `self`, or of the object, `other`.
+// Part of the answer of `product`, by the Rust's names (an `Either` would say less): a part of the subject, `self`, or of the object, `other`.
 #[derive(Clone, Copy)]
 pub enum ProductArg<T> {
     Subject(AnyRange<T>),
@@ -160,7 +124,7 @@ pub struct Product<T> {
     pub after: Option<ProductArg<T>>,
 }
 
-// The answer of `without`.
+// The answer of `without`, by the Rust's names (two Options would not).
 #[derive(Clone, Copy)]
 pub enum Difference<T> {
     // what lies before the other range, or the whole range where the other holds no key
@@ -171,14 +135,4 @@ pub enum Difference<T> {
     Split(AnyRange<T>, AnyRange<T>),
     // nothing is left
     Empty,
-}
-
-// Whether no key lies from the start to the end.
-fn is_range_empty<K: Key>(start: Bound<K>, end: Bound<K>) -> bool
-    ensures { result ≡ vacant (ends K.Key start end) }
-{
-    match Directed::Start(start).bound_cmp(&Directed::End(end)) {
-        BoundOrdering::Included(_) => false,
-        BoundOrdering::Excluded(_) => true,
-    }
 }

@@ -1,10 +1,7 @@
--- A tally after one byte more, and along chunks. Assumes nothing.
-use Rattle.std.proofs.Common.{◌≡◌, ℕ, ◌+◌, ◌<◌, List, [], ◌∷◌, ◌++◌, length, get_or, take, ℤ, Some, sym, ap, ◌∙◌, subst, arith}
-use Rattle.std.proofs.lemmas.List.{append_assoc, flat_map_more, take_more, length_push}
-use Rattle.std.specs.List.{flat_map}
-use Rattle.kinds.specs.Bands.{band_table, band_in}
+-- A tally after one byte more. Assumes nothing.
+use Rattle.std.proofs.Common.{◌≡◌, ℕ, ◌<◌, List, [], ◌∷◌, ◌++◌, length, ℤ, sym, ap, ◌∙◌, subst, arith}
+use Rattle.std.proofs.lemmas.List.{length_push}
 use Rattle.kinds.specs.RawCount.{from_bytes}
-use Rattle.kinds.specs.declared.band.Band.{Band}
 use Rattle.tally.specs.declared.counts.Counts.{Counts}
 use Rattle.tally.specs.declared.part.Part.{Part}
 use Rattle.tally.specs.declared.part.Part.TheVariants.{Nothing, One, Two}
@@ -12,8 +9,6 @@ use Rattle.tally.specs.declared.tally.Tally.{Tally}
 use Rattle.tally.specs.Counting.{Counted}
 use Rattle.tally.specs.Input.{samples, left_over_bytes, Tallied}
 use Rattle.tally.specs.Parts.{part_bytes}
-use Rattle.tally.specs.Steps.{counts_with}
-use Rattle.tally.proofs.Countings.{counted_more}
 use Rattle.tally.proofs.Inputs.{more_left, more_whole}
 
 part_short : (p : Part) → length (part_bytes p) < 3
@@ -35,25 +30,14 @@ module _ (seen : List ℕ) (t u : Tally) (byte : ℕ) (h : Tallied seen t) where
         left_over = grown ∙ sym more.1;
       }
 
-  -- the byte completes the sample x of band b
-  pub tallied_whole : (bytes : List ℕ) (x : ℤ) (b : Band) → length (part_bytes t.part) ≡ 2 → bytes ≡ part_bytes t.part ++ byte ∷ []
-      → part_bytes u.part ≡ [] → x ≡ from_bytes bytes → band_in band_table x ≡ Some b → u.counts ≡ counts_with t.counts x b → Tallied (seen ++ byte ∷ []) u
-  tallied_whole bytes x b two whole none value band counts =
+  -- the byte completes a sample
+  pub tallied_whole : (bytes : List ℕ) (x : ℤ) → length (part_bytes t.part) ≡ 2 → bytes ≡ part_bytes t.part ++ byte ∷ [] → part_bytes u.part ≡ []
+      → x ≡ from_bytes bytes → Counted (samples seen ++ x ∷ []) u.counts → Tallied (seen ++ byte ∷ []) u
+  tallied_whole bytes x two whole none value counts =
       let more = more_whole seen byte (ap length (sym h.left_over) ∙ two) in
       let read : x ≡ from_bytes (left_over_bytes seen ++ byte ∷ []) = value ∙ ap from_bytes (whole ∙ ap (λ (l : List ℕ). l ++ byte ∷ []) h.left_over) in
       let listed : samples seen ++ x ∷ [] ≡ samples (seen ++ byte ∷ []) = ap (λ (y : ℤ). samples seen ++ y ∷ []) read ∙ sym more.0 in
       record {
-        counts =
-            subst (λ (c : Counts). Counted (samples (seen ++ byte ∷ [])) c) (sym counts)
-            (subst (λ (xs : List ℤ). Counted xs (counts_with t.counts x b)) listed (counted_more (samples seen) x t.counts h.counts b band));
+        counts = subst (λ (xs : List ℤ). Counted xs u.counts) listed counts;
         left_over = none ∙ sym more.1;
       }
-
--- one turn of a walk along a chunk
-pub one_further : (seen chunk : List ℕ) (i d : ℕ) → i < length chunk → (seen ++ take i chunk) ++ get_or chunk i d ∷ [] ≡ seen ++ take (i + 1) chunk
-one_further seen chunk i d h =
-    append_assoc seen (take i chunk) (get_or chunk i d ∷ []) ∙ ap (λ (l : List ℕ). seen ++ l) (sym (take_more chunk i d h))
-
--- one turn of a walk along the chunks
-pub joined_further : {X : Type 0} (f : X → List ℕ) (xs : List X) (i : ℕ) (d : X) → i < length xs → flat_map f (take i xs) ++ f (get_or xs i d) ≡ flat_map f (take (i + 1) xs)
-joined_further f xs i d h = flat_map_more f [] (take i xs) (get_or xs i d) ∙ ap (flat_map f) (sym (take_more xs i d h))

@@ -2,4 +2,3 @@ pub mod Counting
 pub mod Input
 pub mod Parts
 pub mod Report
-pub mod Steps

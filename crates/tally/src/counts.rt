@@ -1,6 +1,5 @@
 // How many samples each band has, and where its first one stands. Numbers stop at 2^64 - 1.
-ghost use Rattle.std.specs.Prelude.{◌≡◌};
-ghost use Rattle.tally.specs.Steps.{no_samples, no_counts, with_sample, counts_with};
+ghost use Rattle.std.specs.Prelude.{◌≡◌, ◌≢◌, ◌+◌};
 
 use kinds::{Band, RawCount};
 
@@ -8,40 +7,31 @@ use kinds::{Band, RawCount};
 #[derive(Clone, Copy)]
 pub struct First {
     pub index: u64,
-    pub count: i32,
+    pub count: RawCount,
 }
 
-#[derive(Clone, Copy)]
+#[derive(Clone, Copy, Default)]
 pub struct BandTally {
     pub samples: u64,
     pub first: Option<First>,
 }
 
 impl BandTally {
-    fn new() -> BandTally
-        ensures { result ≡ no_samples }
-    {
-        BandTally {
-            samples: 0,
-            first: None,
-        }
-    }
+    ghost use Rattle.tally.specs.Counting.{GainsSample};
 
     // One sample more of this band, at the index among all samples.
     fn add(&mut self, index: u64, count: &RawCount)
-        ensures { self.new ≡ with_sample self.old index count.now.value }
+        ensures { GainsSample self.old self.new index count.now }
     {
-        if self.first.is_none() {
-            self.first = Some(First {
-                index,
-                count: count.value(),
-            });
-        }
+        self.first = self.first.or(Some(First {
+            index,
+            count: *count,
+        }));
         self.samples = self.samples.saturating_add(1);
     }
 }
 
-#[derive(Clone, Copy)]
+#[derive(Clone, Copy, Default)]
 pub struct Counts {
     pub samples: u64,
     pub usable: BandTally,
@@ -50,20 +40,13 @@ pub struct Counts {
 }
 
 impl Counts {
-    pub(crate) fn new() -> Counts
-        ensures { result ≡ no_counts }
-    {
-        Counts {
-            samples: 0,
-            usable: BandTally::new(),
-            near_rail: BandTally::new(),
-            rail: BandTally::new(),
-        }
-    }
+    ghost use Rattle.tally.specs.Counting.{capped, tally_in, GainsSample};
 
     // One sample more, which has the band.
     pub(crate) fn add(&mut self, count: &RawCount, band: Band)
-        ensures { self.new ≡ counts_with self.old count.now.value band }
+        ensures number { self.new.samples ≡ capped (self.old.samples + 1) }
+        ensures gains { GainsSample (tally_in self.old band) (tally_in self.new band) self.old.samples count.now }
+        ensures others { (b : Band) → b ≢ band → tally_in self.new b ≡ tally_in self.old b }
     {
         let index = self.samples;
         match band {

@@ -1,4 +1,4 @@
-// The bytes of a sample that is not whole yet.
+// The bytes of a sample that is not whole yet: three cases, and no buffer with a length, so that there is never a third byte.
 ghost use Rattle.std.specs.Prelude.{◌≡◌, [], ◌∷◌, ◌++◌, length, MatchOption};
 ghost use Rattle.tally.specs.Parts.{part_bytes};
 

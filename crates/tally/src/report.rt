@@ -1,15 +1,31 @@
 // What is printed of a tally.
 ghost use Rattle.std.specs.Prelude.{Some};
-ghost use Rattle.tally.specs.Report.{first_line, left_line, report_text};
+ghost use Rattle.tally.specs.Report.{band_line, first_line, left_line, report_text};
 
 use crate::counts::First;
 use crate::tally::Tally;
+use kinds::Band;
 use std::fmt;
+
+// The line of a band: its number, and how many samples it has.
+#[derive(Clone, Copy)]
+struct BandLine {
+    band: Band,
+    samples: u64,
+}
+
+impl fmt::Display for BandLine {
+    ghost output = { λ l. Some (band_line l.band l.samples) };
+
+    fn fmt<W: fmt::Write>(&self, f: &mut fmt::Formatter<W>) -> fmt::Result {
+        writeln!(f, "band {} {}", u16::from(self.band), self.samples)
+    }
+}
 
 // The line of a band's first sample, or nothing.
 #[derive(Clone, Copy)]
 struct FirstLine {
-    band: u8,
+    band: Band,
     first: Option<First>,
 }
 
@@ -20,10 +36,13 @@ impl fmt::Display for FirstLine {
         let Some(first) = self.first else {
             return Ok(());
         };
-        let band = self.band;
-        let index = first.index;
-        let count = first.count;
-        write!(f, "first {band} {index} {count}\n")
+        writeln!(
+            f,
+            "first {} {} {}",
+            u16::from(self.band),
+            first.index,
+            first.count.value()
+        )
     }
 }
 
@@ -37,11 +56,10 @@ impl fmt::Display for LeftLine {
     ghost output = { λ l. Some (left_line l.bytes) };
 
     fn fmt<W: fmt::Write>(&self, f: &mut fmt::Formatter<W>) -> fmt::Result {
-        let bytes = self.bytes;
-        if bytes == 0 {
+        if self.bytes == 0 {
             return Ok(());
         }
-        write!(f, "left over {bytes}\n")
+        writeln!(f, "left over {}", self.bytes)
     }
 }
 
@@ -51,15 +69,24 @@ impl fmt::Display for Tally {
     fn fmt<W: fmt::Write>(&self, f: &mut fmt::Formatter<W>) -> fmt::Result {
         let counts = self.counts();
         let samples = counts.samples;
-        let usable = counts.usable.samples;
-        let near_rail = counts.near_rail.samples;
-        let rail = counts.rail.samples;
+        let usable = BandLine {
+            band: Band::Usable,
+            samples: counts.usable.samples,
+        };
+        let near_rail = BandLine {
+            band: Band::NearRail,
+            samples: counts.near_rail.samples,
+        };
+        let rail = BandLine {
+            band: Band::Rail,
+            samples: counts.rail.samples,
+        };
         let first_near_rail = FirstLine {
-            band: 2,
+            band: Band::NearRail,
             first: counts.near_rail.first,
         };
         let first_rail = FirstLine {
-            band: 3,
+            band: Band::Rail,
             first: counts.rail.first,
         };
         let left = LeftLine {
@@ -67,7 +94,7 @@ impl fmt::Display for Tally {
         };
         write!(
             f,
-            "samples {samples}\nband 1 {usable}\nband 2 {near_rail}\nband 3 {rail}\n{first_near_rail}{first_rail}{left}"
+            "samples {samples}\n{usable}{near_rail}{rail}{first_near_rail}{first_rail}{left}"
         )
     }
 }

@@ -20,7 +20,7 @@ impl Tally {
         ensures { Tallied [] result }
     {
         Tally {
-            counts: Counts::new(),
+            counts: Counts::default(),
             part: Part::Nothing,
         }
     }
@@ -29,8 +29,8 @@ impl Tally {
     pub fn take(&mut self, chunk: &[u8])
         ensures { (seen : List ℕ) → Tallied seen self.old → Tallied (seen ++ chunk.now) self.new }
     {
-        for byte in chunk {
-            self.push(*byte);
+        for &byte in chunk {
+            self.push(byte);
         }
     }
 
@@ -38,7 +38,7 @@ impl Tally {
         ensures { (seen : List ℕ) → Tallied seen self.old → Tallied (seen ++ byte ∷ []) self.new }
     {
         if let Some(bytes) = self.part.push(byte) {
-            let count = RawCount::from_bytes(bytes);
+            let count = RawCount::from(bytes);
             self.counts.add(&count, band_of(&count));
         }
     }
@@ -63,7 +63,7 @@ pub fn tally_of(chunks: &[&[u8]]) -> Tally
 {
     let mut tally = Tally::new();
     for chunk in chunks {
-        tally.take(*chunk);
+        tally.take(chunk);
     }
     tally
 }

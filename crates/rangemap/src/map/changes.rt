@@ -1,60 +1,32 @@
 // The calls that change the map.
-ghost use Rattle.std.specs.Prelude.{◌≡◌, ◌+◌, ◌<◌, ◌≤◌, vec_len, vec_capacity};
+ghost use Rattle.std.specs.Prelude.{◌≡◌, IfErr};
 ghost use Rattle.ledger.specs.Ledger.{insert as inserting, insert_disconnected as storing, remove as removing, update as updating};
 ghost use Rattle.ranges.specs.Parts.{span as ends};
 ghost use Rattle.rangemap.specs.Declines.{answer, answer_or};
-ghost use Rattle.rangemap.specs.Maps.{Does, Keeps, Placed, RisesIn, Settled};
+ghost use Rattle.rangemap.specs.Maps.{Does, Keeps, Placed};
 ghost use Rattle.rangemap.specs.Ranges.{lo, hi};
 
-use super::super::address::insert_at;
-use super::super::cuts::cut_back;
 use super::super::decline::Decline;
+use super::super::held_range::HeldRange;
 use super::super::item::Item;
-use super::super::update::update;
-use super::super::walk::insert;
 use super::RangeMap;
 use lawful::{Change, Key, Value};
 use ranges::AnyRange;
-use std::mem::swap;
-
-// Makes the work list a copy of the items, in the memory that it has.
-fn copy<K: Key, V: Value>(items: &Vec<Item<K, V>>, work: &mut Vec<Item<K, V>>)
-    requires { vec_len items.now ≤ vec_capacity work.old }
-    ensures items { work.new.items ≡ items.now.items }
-    ensures len { vec_len work.new ≡ vec_len items.now }
-    ensures capacity { vec_capacity work.old ≤ vec_capacity work.new }
-{
-    work.clear();
-    match work.extend_from_slice(items) {
-        Ok(()) => {}
-        Err(_) => unreachable(),
-    }
-}
 
 impl<K: Key, V: Value> RangeMap<K, V> {
-    // Takes the work list for the items, unless it is longer than the slots.
-    fn settle(&mut self) -> Result<usize, Decline>
-        ensures { Settled self.old result self.new }
-    {
-        if self.work.len() > self.slots {
-            return Err(Decline::Full);
-        }
-        swap(&mut self.items, &mut self.work);
-        Ok(self.items.len())
-    }
-
     // Puts the value at the places of the range, and answers the number of ranges then stored.
     pub fn insert(&mut self, range: AnyRange<K>, value: V) -> Result<usize, Decline>
-        ensures does { Does K.Key V.Value.equals self.old (inserting (lo K.Key range) (hi K.Key range) value) (answer result) self.new }
-        ensures keeps { Keeps self.old result self.new }
+        ensures does { Does K.Key.own V.eq self.old.store (inserting (lo K.Key.own range) (hi K.Key.own range) value) (answer result) self.new.store }
+        ensures keeps { Keeps self.old.store result self.new.store }
     {
-        if self.items.len() + 2 <= self.slots {
-            insert(&mut self.items, range, value);
-            return Ok(self.items.len());
+        let store = &mut self.store;
+        if store.items.len() + 2 <= store.slots {
+            store.items.insert(range, value);
+            return Ok(store.items.len());
         }
-        copy(&self.items, &mut self.work);
-        insert(&mut self.work, range, value);
-        self.settle()
+        store.copy();
+        store.work.insert(range, value);
+        store.settle()
     }
 
     // Puts at each place of the range what the change makes of what is there, and answers the number of ranges then stored. Not public before the promise over lists of calls stands.
@@ -63,30 +35,30 @@ impl<K: Key, V: Value> RangeMap<K, V> {
         range: AnyRange<K>,
         change: &C,
     ) -> Result<usize, Decline>
-        ensures does { Does K.Key V.Value.equals self.old (updating (lo K.Key range) (hi K.Key range) (C.Change.makes change.now)) (answer result) self.new }
-        ensures keeps { Keeps self.old result self.new }
+        ensures does { Does K.Key.own V.eq self.old.store (updating (lo K.Key.own range) (hi K.Key.own range) (C.makes change.now)) (answer result) self.new.store }
+        ensures keeps { Keeps self.old.store result self.new.store }
     {
-        copy(&self.items, &mut self.work);
-        update(&mut self.work, range, change);
-        self.settle()
+        let store = &mut self.store;
+        store.copy();
+        store.work.update(range, change);
+        store.settle()
     }
 
     // Takes the places of the key out of the map, and answers the number of ranges then stored.
+    #[tactic(auto, using(crate::proofs::Edits::remove_bare, crate::proofs::Edits::remove_keeps))]
     pub fn remove(&mut self, key: AnyRange<K>) -> Result<usize, Decline>
-        ensures does { Does K.Key V.Value.equals self.old (removing (ends K.Key key).low (ends K.Key key).high) (answer result) self.new }
-        ensures keeps { RisesIn K.Key self.old → Keeps self.old result self.new }
+        ensures does { Does K.Key.own V.eq self.old.store (removing (ends K.Key.own key).low (ends K.Key.own key).high) (answer result) self.new.store }
+        ensures keeps { Keeps self.old.store result self.new.store }
     {
-        if key.is_empty() {
-            return Ok(self.items.len());
-        }
-        let Ok(from) = self.address_of(key, false) else {
-            return Ok(self.items.len());
+        let Some(held) = HeldRange::new(key) else {
+            return Ok(self.store.items.len());
         };
-        if cut_back(&mut self.items, self.slots, from, key) {
-            Ok(self.items.len())
-        } else {
-            Err(Decline::Full)
-        }
+        let Ok(from) = self.address_of(&held, false) else {
+            return Ok(self.store.items.len());
+        };
+        let slots = self.store.slots;
+        self.store.items.cut_back(slots, from, &held)?;
+        Ok(self.store.items.len())
     }
 
     // Stores a range that neither shares a place with a stored one nor touches it, and answers the number of ranges then stored. Declined, the range and the value come back.
@@ -95,20 +67,22 @@ impl<K: Key, V: Value> RangeMap<K, V> {
         key: AnyRange<K>,
         value: V,
     ) -> Result<usize, (Decline, (AnyRange<K>, V))>
-        ensures does { Does K.Key V.Value.equals self.old (storing (ends K.Key key).low (ends K.Key key).high value) (answer_or result) self.new }
-        ensures stored { Placed self.old key value result self.new }
+        ensures does { Does K.Key.own V.eq self.old.store (storing (ends K.Key.own key).low (ends K.Key.own key).high value) (answer_or result) self.new.store }
+        ensures stored { Placed self.old.store key value result self.new.store }
+        ensures untouched { IfErr result (λ _. self.new ≡ self.old) }
     {
-        if key.is_empty() {
+        let Some(held) = HeldRange::new(key) else {
             return Err((Decline::EmptyRange, (key, value)));
-        }
-        match self.address_of(key, true) {
+        };
+        match self.address_of(&held, true) {
             Ok(_) => Err((Decline::Connected, (key, value))),
             Err(addr) => {
-                if self.items.len() >= self.slots {
+                if self.store.items.len() >= self.store.slots {
                     return Err((Decline::Full, (key, value)));
                 }
-                insert_at(&mut self.items, addr, Item { key, value });
-                Ok(self.items.len())
+                let store = &mut self.store;
+                store.items.insert_at(addr, Item { key, value });
+                Ok(store.items.len())
             }
         }
     }

@@ -1,13 +1,12 @@
 // A range by its two ends, and what it holds.
 ghost use Rattle.std.specs.Prelude.{◌≡◌, Decides};
 ghost use Rattle.ranges.specs.Ranges.{Same, joined, vacant, size};
-ghost use Rattle.ranges.specs.Parts.{span, First, Last};
+ghost use Rattle.ranges.specs.Parts.{span, Cropped, First, Last};
 ghost use Rattle.ranges.specs.Contains.{Contains, Placed, holds};
 
-use crate::range::bound::{max_bound, min_bound};
-use crate::range::is_range_empty;
+use crate::range::bound::{Directed, Side, max_bound, min_bound};
+use crate::range::ordering::BoundOrdering;
 use lawful::Key;
-use std::cmp::Ordering;
 use std::ops::Bound;
 
 #[derive(Clone, Copy)]
@@ -27,25 +26,35 @@ impl<T> AnyRange<T> {
 impl<K: Key> AnyRange<K> {
     // Whether it holds no key.
     pub fn is_empty(&self) -> bool
-        ensures { result ≡ vacant (span K.Key self.now) }
+        ensures { result ≡ vacant (span K.Key.own self.now) }
     {
-        is_range_empty(self.start, self.end)
+        matches!(
+            Directed::Start(self.start).bound_cmp(&Directed::End(self.end)),
+            BoundOrdering::Excluded(_)
+        )
+    }
+
+    // The range itself, if it holds a key.
+    pub(crate) fn if_held(self) -> Option<AnyRange<K>>
+        ensures { Cropped K.Key.own (span K.Key.own self) result }
+    {
+        if self.is_empty() { None } else { Some(self) }
     }
 
     // Whether it holds the key, which is to pass both ends. `placed` is the theorem that these are the keys whose places lie in the span.
     pub fn contains(&self, key: &K) -> bool
-        ensures passes { Decides result (Contains K.Key self.now key.now) }
-        ensures places { result ≡ holds (span K.Key self.now) (K.Key.place key.now) }
-        ensures placed { Placed K.Key self.now key.now }
+        ensures passes { Decides result (Contains K.Key.own self.now key.now) }
+        ensures places { result ≡ holds (span K.Key.own self.now) (K.place key.now) }
+        ensures placed { Placed K.Key.own self.now key.now }
     {
         let started = match self.start {
-            Bound::Included(a) => a.compare(key) != Ordering::Greater,
-            Bound::Excluded(a) => a.compare(key) == Ordering::Less,
+            Bound::Included(a) => a <= *key,
+            Bound::Excluded(a) => a < *key,
             Bound::Unbounded => true,
         };
         let ended = match self.end {
-            Bound::Included(b) => key.compare(&b) != Ordering::Greater,
-            Bound::Excluded(b) => key.compare(&b) == Ordering::Less,
+            Bound::Included(b) => *key <= b,
+            Bound::Excluded(b) => *key < b,
             Bound::Unbounded => true,
         };
         started && ended
@@ -53,27 +62,17 @@ impl<K: Key> AnyRange<K> {
 
     // The number of keys held.
     pub fn len(&self) -> u64
-        ensures { result ≡ size (span K.Key self.now) }
+        ensures { result ≡ size (span K.Key.own self.now) }
     {
-        if self.is_empty() {
-            return 0;
-        }
-        match (self.start, self.end) {
-            (Bound::Included(a), Bound::Included(b)) => a.distance(&b) + 1,
-            (Bound::Included(a), Bound::Excluded(b)) => a.distance(&b),
-            (Bound::Included(a), Bound::Unbounded) => a.distance(&K::max()) + 1,
-            (Bound::Excluded(a), Bound::Included(b)) => a.distance(&b),
-            (Bound::Excluded(a), Bound::Excluded(b)) => a.distance(&b) - 1,
-            (Bound::Excluded(a), Bound::Unbounded) => a.distance(&K::max()),
-            (Bound::Unbounded, Bound::Included(b)) => K::min().distance(&b) + 1,
-            (Bound::Unbounded, Bound::Excluded(b)) => K::min().distance(&b),
-            (Bound::Unbounded, Bound::Unbounded) => K::count(),
+        match (self.first(), self.last()) {
+            (Some(first), Some(last)) => first.distance(&last) + 1,
+            _ => 0,
         }
     }
 
     // The first key held, if any.
     pub fn first(&self) -> Option<K>
-        ensures { First K.Key (span K.Key self.now) result }
+        ensures { First K.Key.own (span K.Key.own self.now) result }
     {
         if self.is_empty() {
             return None;
@@ -81,13 +80,13 @@ impl<K: Key> AnyRange<K> {
         match self.start {
             Bound::Included(a) => Some(a),
             Bound::Excluded(a) => a.succ(),
-            Bound::Unbounded => Some(K::min()),
+            Bound::Unbounded => Some(<K as Key>::min()),
         }
     }
 
-    // The last key held, if any.
+    // The last key held, if any. (`first` and `last` differ in each of three calls: shared text would hide which.)
     pub fn last(&self) -> Option<K>
-        ensures { Last K.Key (span K.Key self.now) result }
+        ensures { Last K.Key.own (span K.Key.own self.now) result }
     {
         if self.is_empty() {
             return None;
@@ -95,15 +94,15 @@ impl<K: Key> AnyRange<K> {
         match self.end {
             Bound::Included(a) => Some(a),
             Bound::Excluded(a) => a.pred(),
-            Bound::Unbounded => Some(K::max()),
+            Bound::Unbounded => Some(<K as Key>::max()),
         }
     }
 
     // Makes it run from the lower of the two starts to the higher of the two ends.
     pub fn add(&mut self, other: &AnyRange<K>)
-        ensures { Same (span K.Key self.new) (joined (span K.Key self.old) (span K.Key other.now)) }
+        ensures { Same (span K.Key.own self.new) (joined (span K.Key.own self.old) (span K.Key.own other.now)) }
     {
-        self.start = min_bound(self.start, other.start, true);
-        self.end = max_bound(self.end, other.end, false);
+        self.start = min_bound(self.start, other.start, Side::Start);
+        self.end = max_bound(self.end, other.end, Side::End);
     }
 }

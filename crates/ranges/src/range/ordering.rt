@@ -1,17 +1,19 @@
 // How two ends, and two ranges, lie to one another.
-ghost use Rattle.std.specs.Prelude.{◌≡◌, ◌+◌, not, ◌||◌, if◌then◌else◌, ◌==◌};
-ghost use Rattle.ranges.specs.Places.{Apart, Compares, mark, directed, is_start};
+ghost use Rattle.std.specs.Prelude.{◌≡◌, ◌+◌, if◌then◌else◌, ◌==◌};
+ghost use Rattle.ranges.specs.Places.{Compares, apart, mark, directed, limit_of, opposite_of, side_of};
+ghost use Rattle.ranges.specs.declared.range.bound.Side.{Side};
 ghost use Rattle.ranges.specs.Ranges.{Span, Lies, Ordered, precedes, reaches};
 ghost use Rattle.ranges.specs.Parts.{span};
 
 use crate::range::any::AnyRange;
-use crate::range::bound::Directed;
+use crate::range::bound::{Directed, Side};
 use lawful::Key;
 use std::cmp::Ordering;
 use std::ops::Bound;
 
-// How one range lies to another.
-#[derive(Clone, Copy)]
+// How one range lies to another; cases, flags and the option `connected` of its calls are the Rust's, for the two to be held
+// side by side. The flags mean something of two ranges alone, so each call speaks of any two that lie so.
+#[derive(Clone, Copy, Debug, PartialEq, Eq)]
 pub enum RangeOrdering {
     // before it; the flag: they touch
     Before(bool),
@@ -26,20 +28,15 @@ impl RangeOrdering {
     pub fn is_before(&self, connected: bool) -> bool
         ensures { (x y : Span) → Lies x y self.now → result ≡ precedes connected x y }
     {
-        match self {
-            RangeOrdering::Before(c) => !*c || !connected,
-            _ => false,
-        }
+        matches!(self, RangeOrdering::Before(touching) if !*touching || !connected)
     }
 
-    // After the other; if touching ranges count as connected, with a key between.
+    // After the other; if touching ranges count as connected, with a key between. (Turning the ordering round to share
+    // the line of `is_before` would be longer than the line.)
     pub fn is_after(&self, connected: bool) -> bool
         ensures { (x y : Span) → Lies x y self.now → result ≡ precedes connected y x }
     {
-        match self {
-            RangeOrdering::After(c) => !*c || !connected,
-            _ => false,
-        }
+        matches!(self, RangeOrdering::After(touching) if !*touching || !connected)
     }
 
     // The two share a key; if touching ranges count as connected, or touch.
@@ -47,8 +44,9 @@ impl RangeOrdering {
         ensures { (x y : Span) → Lies x y self.now → result ≡ reaches connected x y }
     {
         match self {
-            RangeOrdering::Before(c) => *c && connected,
-            RangeOrdering::After(c) => *c && connected,
+            RangeOrdering::Before(touching) | RangeOrdering::After(touching) => {
+                *touching && connected
+            }
             RangeOrdering::Intersecting(_, _) => true,
         }
     }
@@ -57,22 +55,26 @@ impl RangeOrdering {
 impl<K: Key> AnyRange<K> {
     // How this range lies to the other, absent where either holds no key.
     pub fn range_partial_cmp(&self, other: &AnyRange<K>) -> Option<RangeOrdering>
-        ensures { Ordered (span K.Key self.now) (span K.Key other.now) result }
+        ensures { Ordered (span K.Key.own self.now) (span K.Key.own other.now) result }
     {
         if self.is_empty() || other.is_empty() {
             return None;
         }
-        let limit_after = direct_bound_eq(self.end, other.end, false);
-        let order = match direct_bound_cmp(self.start, other.start, true) {
+        let limit_after = direct_bound_eq(self.end, other.end, Side::End);
+        let order = match direct_bound_cmp(self.start, other.start, Side::Start) {
             BoundOrdering::Included(limit_before) => {
-                match inverse_bound_cmp(self.start, other.end, false) {
+                match inverse_bound_cmp(self.start, other.end, Side::End) {
                     BoundOrdering::Included(_) => {
                         RangeOrdering::Intersecting(limit_before, limit_after)
                     }
                     BoundOrdering::Excluded(touching) => RangeOrdering::After(touching),
                 }
             }
-            BoundOrdering::Excluded(_) => match inverse_bound_cmp(self.end, other.start, true) {
+            BoundOrdering::Excluded(_) => match inverse_bound_cmp(
+                self.end,
+                other.start,
+                Side::Start,
+            ) {
                 BoundOrdering::Included(_) => RangeOrdering::Intersecting(false, limit_after),
                 BoundOrdering::Excluded(touching) => RangeOrdering::Before(touching),
             },
@@ -81,8 +83,8 @@ impl<K: Key> AnyRange<K> {
     }
 }
 
-// How one end lies to another.
-#[derive(Clone, Copy)]
+// How one end lies to another; cases and flags are the Rust's.
+#[derive(Clone, Copy, Debug, PartialEq, Eq)]
 pub enum BoundOrdering {
     // on the side that the other lets in; the flag: at one place
     Included(bool),
@@ -93,218 +95,135 @@ pub enum BoundOrdering {
 impl<K: Key> Directed<Bound<K>> {
     // A start against an end compares as ends do, an end against a start as starts do.
     pub fn bound_cmp(&self, other: &Directed<Bound<K>>) -> BoundOrdering
-        ensures { Compares (is_start other.now) (mark K.Key self.now) (mark K.Key other.now) result }
+        ensures { Compares (side_of other.now) (mark K.Key.own self.now) (mark K.Key.own other.now) result }
     {
         match (*self, *other) {
-            (Directed::Start(a), Directed::Start(b)) => direct_bound_cmp(a, b, true),
-            (Directed::Start(a), Directed::End(b)) => inverse_bound_cmp(a, b, false),
-            (Directed::End(a), Directed::Start(b)) => inverse_bound_cmp(a, b, true),
-            (Directed::End(a), Directed::End(b)) => direct_bound_cmp(a, b, false),
+            (Directed::Start(a), Directed::Start(b)) => direct_bound_cmp(a, b, Side::Start),
+            (Directed::Start(a), Directed::End(b)) => inverse_bound_cmp(a, b, Side::End),
+            (Directed::End(a), Directed::Start(b)) => inverse_bound_cmp(a, b, Side::Start),
+            (Directed::End(a), Directed::End(b)) => direct_bound_cmp(a, b, Side::End),
         }
     }
 }
 
-fn same<K: Key>(a: K, b: K) -> bool
-    ensures { result ≡ (K.Key.place a == K.Key.place b) }
+// How many places apart two keys are.
+fn apart<K: Key>(t: K, u: K) -> u64
+    ensures { result ≡ apart (K.place t) (K.place u) }
 {
-    a.compare(&b) == Ordering::Equal
+    t.place().abs_diff(u.place())
 }
 
-// The number of keys between two keys.
-#[derive(Clone, Copy)]
-enum Dist {
-    Equals,
-    Zero,
-    One,
-    More,
+// Whether a bound that is Unbounded on this side has this key there.
+fn is_limit<K: Key>(k: K, side: Side) -> bool
+    ensures { result ≡ (K.place k == limit_of K.Key.own side) }
+{
+    k == side.limit()
 }
 
-fn dist_between<K: Key>(t: K, u: K) -> Dist
-    ensures { Apart (K.Key.place t) (K.Key.place u) result }
+// Whether the key stands right beside the one that `is_limit` asks for.
+fn is_beside_limit<K: Key>(k: K, side: Side) -> bool
+    ensures { result ≡ (apart (K.place k) (limit_of K.Key.own side) == 1) }
 {
-    if same(t, u) {
-        return Dist::Equals;
-    }
-    if let Some(s) = t.succ() {
-        if same(s, u) {
-            return Dist::Zero;
-        }
-        if let Some(ss) = s.succ()
-            && same(ss, u)
-        {
-            return Dist::One;
-        }
-    }
-    if let Some(p) = t.pred() {
-        if same(p, u) {
-            return Dist::Zero;
-        }
-        if let Some(pp) = p.pred()
-            && same(pp, u)
-        {
-            return Dist::One;
-        }
-    }
-    Dist::More
-}
-
-// Whether the two keys are neighbours.
-fn distance_zero<K: Key>(t: K, u: K) -> bool
-    ensures { result ≡ (K.Key.place t + 1 == K.Key.place u || K.Key.place u + 1 == K.Key.place t) }
-{
-    if let Some(s) = t.succ()
-        && same(s, u)
-    {
-        return true;
-    }
-    if let Some(p) = t.pred()
-        && same(p, u)
-    {
-        return true;
-    }
-    false
-}
-
-// Whether the key is the first of its kind, or else the last.
-fn is_limit<K: Key>(k: K, first: bool) -> bool
-    ensures { result ≡ (if first then (K.Key.place k == 0) else (K.Key.place k + 1 == K.Key.count)) }
-{
-    if first {
-        same(k, K::min())
-    } else {
-        same(k, K::max())
-    }
-}
-
-// Whether the key stands right beside the first of its kind, or else beside the last.
-fn is_beside_limit<K: Key>(k: K, first: bool) -> bool
-    ensures { result ≡ (if first then (K.Key.place k == 1) else (K.Key.place k + 2 == K.Key.count)) }
-{
-    let next = if first { k.pred() } else { k.succ() };
-    match next {
-        Some(n) => is_limit(n, first),
-        None => false,
-    }
+    apart(k, side.limit()) == 1
 }
 
 // Two ends whose places lie as their keys do.
-fn level<K: Key>(v1: K, v2: K, start: bool) -> BoundOrdering
-    ensures { Compares start (K.Key.place v1) (K.Key.place v2) result }
+fn level<K: Key>(v1: K, v2: K, side: Side) -> BoundOrdering
+    ensures { Compares side (K.place v1) (K.place v2) result }
 {
-    let included_ord = if start {
-        Ordering::Greater
-    } else {
-        Ordering::Less
-    };
-    match v1.compare(&v2) {
+    match v1.cmp(&v2) {
         Ordering::Equal => BoundOrdering::Included(true),
-        ord if ord == included_ord => BoundOrdering::Included(false),
-        _ => BoundOrdering::Excluded(distance_zero(v1, v2)),
+        ord if ord == side.inward() => BoundOrdering::Included(false),
+        _ => BoundOrdering::Excluded(apart(v1, v2) == 1),
     }
 }
 
-// Two ends that stand side by side where their keys are one, the first on the side that the second leaves out.
-fn aside<K: Key>(v1: K, v2: K, start: bool) -> BoundOrdering
-    ensures { Compares start (K.Key.place v1 + (if start then 0 else 1)) (K.Key.place v2 + (if start then 1 else 0)) result }
+// The first lets its key in and the second leaves its own out: where these are one key, they stand side by side.
+fn aside<K: Key>(v1: K, v2: K, side: Side) -> BoundOrdering
+    ensures { Compares side (mark K.Key.own (directed side (Bound.Included v1))) (mark K.Key.own (directed side (Bound.Excluded v2))) result }
 {
-    let included_ord = if start {
-        Ordering::Greater
-    } else {
-        Ordering::Less
-    };
-    match v1.compare(&v2) {
+    match v1.cmp(&v2) {
         Ordering::Equal => BoundOrdering::Excluded(true),
-        ord if ord == included_ord => BoundOrdering::Included(distance_zero(v1, v2)),
+        ord if ord == side.inward() => BoundOrdering::Included(apart(v1, v2) == 1),
         _ => BoundOrdering::Excluded(false),
     }
 }
 
-// Two starts, or two ends.
-pub(crate) fn direct_bound_cmp<K: Key>(b1: Bound<K>, b2: Bound<K>, start: bool) -> BoundOrdering
-    ensures { Compares start (mark K.Key (directed start b1)) (mark K.Key (directed start b2)) result }
+// Two starts, or two ends. Kept apart from `inverse_bound_cmp`, as in the Rust: the nine cases differ.
+pub(crate) fn direct_bound_cmp<K: Key>(b1: Bound<K>, b2: Bound<K>, side: Side) -> BoundOrdering
+    ensures { Compares side (mark K.Key.own (directed side b1)) (mark K.Key.own (directed side b2)) result }
 {
-    let excluded_ord = if start {
-        Ordering::Less
-    } else {
-        Ordering::Greater
-    };
     match (b1, b2) {
-        (Bound::Included(v1), Bound::Included(v2)) => level(v1, v2, start),
-        (Bound::Included(v1), Bound::Excluded(v2)) => aside(v1, v2, start),
-        (Bound::Included(v1), Bound::Unbounded) => BoundOrdering::Included(is_limit(v1, start)),
+        (Bound::Included(v1), Bound::Included(v2)) => level(v1, v2, side),
+        (Bound::Included(v1), Bound::Excluded(v2)) => aside(v1, v2, side),
+        (Bound::Included(v1), Bound::Unbounded) => BoundOrdering::Included(is_limit(v1, side)),
         (Bound::Excluded(v1), Bound::Included(v2)) => {
-            if v1.compare(&v2) != excluded_ord {
+            if v2.cmp(&v1) != side.inward() {
                 return BoundOrdering::Included(false);
             }
-            match dist_between(v1, v2) {
-                Dist::Zero => BoundOrdering::Included(true),
-                Dist::One => BoundOrdering::Excluded(true),
+            match apart(v1, v2) {
+                1 => BoundOrdering::Included(true),
+                2 => BoundOrdering::Excluded(true),
                 _ => BoundOrdering::Excluded(false),
             }
         }
-        (Bound::Excluded(v1), Bound::Excluded(v2)) => level(v1, v2, start),
+        (Bound::Excluded(v1), Bound::Excluded(v2)) => level(v1, v2, side),
         (Bound::Excluded(_), Bound::Unbounded) => BoundOrdering::Included(false),
         (Bound::Unbounded, Bound::Included(v2)) => {
-            if is_limit(v2, start) {
+            if is_limit(v2, side) {
                 BoundOrdering::Included(true)
             } else {
-                BoundOrdering::Excluded(is_beside_limit(v2, start))
+                BoundOrdering::Excluded(is_beside_limit(v2, side))
             }
         }
-        (Bound::Unbounded, Bound::Excluded(v2)) => BoundOrdering::Excluded(is_limit(v2, start)),
+        (Bound::Unbounded, Bound::Excluded(v2)) => BoundOrdering::Excluded(is_limit(v2, side)),
         (Bound::Unbounded, Bound::Unbounded) => BoundOrdering::Included(true),
     }
 }
 
 // Whether two starts, or two ends, are at one place.
-fn direct_bound_eq<K: Key>(b1: Bound<K>, b2: Bound<K>, start: bool) -> bool
-    ensures { result ≡ (mark K.Key (directed start b1) == mark K.Key (directed start b2)) }
+fn direct_bound_eq<K: Key>(b1: Bound<K>, b2: Bound<K>, side: Side) -> bool
+    ensures { result ≡ (mark K.Key.own (directed side b1) == mark K.Key.own (directed side b2)) }
 {
-    match direct_bound_cmp(b1, b2, start) {
-        BoundOrdering::Included(eq) => eq,
-        BoundOrdering::Excluded(_) => false,
-    }
+    direct_bound_cmp(b1, b2, side) == BoundOrdering::Included(true)
 }
 
-// An end that leaves out the key against an Unbounded start (`first`), or a start that does against an Unbounded end; the same either way round.
-fn beyond_limit<K: Key>(k: K, first: bool) -> BoundOrdering
-    ensures forth { Compares first (if first then K.Key.place k else K.Key.place k + 2) (if first then 1 else K.Key.count) result }
-    ensures back { Compares (not first) (if first then 1 else K.Key.count) (if first then K.Key.place k else K.Key.place k + 2) result }
+// A bound that leaves out the key, against an Unbounded one of this side, which is the other; the same either way round.
+fn beyond_limit<K: Key>(k: K, side: Side) -> BoundOrdering
+    ensures forth { Compares side (mark K.Key.own (directed (opposite_of side) (Bound.Excluded k))) (mark K.Key.own (directed side Bound.Unbounded)) result }
+    ensures back { Compares (opposite_of side) (mark K.Key.own (directed side Bound.Unbounded)) (mark K.Key.own (directed (opposite_of side) (Bound.Excluded k))) result }
 {
-    if is_limit(k, first) {
+    if is_limit(k, side) {
         BoundOrdering::Excluded(true)
     } else {
-        BoundOrdering::Included(is_beside_limit(k, first))
+        BoundOrdering::Included(is_beside_limit(k, side))
     }
 }
 
-// An end against a start (`b2_start`), or a start against an end.
-pub(crate) fn inverse_bound_cmp<K: Key>(b1: Bound<K>, b2: Bound<K>, b2_start: bool) -> BoundOrdering
-    ensures { Compares b2_start (mark K.Key (directed (not b2_start) b1)) (mark K.Key (directed b2_start b2)) result }
+// A bound of the other side against one of this: an end against a start, or a start against an end.
+pub(crate) fn inverse_bound_cmp<K: Key>(b1: Bound<K>, b2: Bound<K>, side: Side) -> BoundOrdering
+    ensures { Compares side (mark K.Key.own (directed (opposite_of side) b1)) (mark K.Key.own (directed side b2)) result }
 {
-    let included_ord = if b2_start {
-        Ordering::Greater
-    } else {
-        Ordering::Less
-    };
     match (b1, b2) {
-        (Bound::Included(v1), Bound::Included(v2)) => level(v1, v2, b2_start),
-        (Bound::Included(v1), Bound::Excluded(v2)) => aside(v1, v2, b2_start),
-        (Bound::Included(v1), Bound::Unbounded) => BoundOrdering::Included(is_limit(v1, b2_start)),
-        (Bound::Excluded(v1), Bound::Included(v2)) => aside(v1, v2, b2_start),
+        (Bound::Included(v1), Bound::Included(v2)) => level(v1, v2, side),
+        (Bound::Included(v1), Bound::Excluded(v2)) => aside(v1, v2, side),
+        (Bound::Included(v1), Bound::Unbounded) => BoundOrdering::Included(is_limit(v1, side)),
+        (Bound::Excluded(v1), Bound::Included(v2)) => aside(v1, v2, side),
         (Bound::Excluded(v1), Bound::Excluded(v2)) => {
-            if v1.compare(&v2) != included_ord {
+            if v1.cmp(&v2) != side.inward() {
                 return BoundOrdering::Excluded(false);
             }
-            match dist_between(v1, v2) {
-                Dist::Zero => BoundOrdering::Excluded(true), // v2 [] v1
-                Dist::One => BoundOrdering::Included(true), // v2 [ x ] v1
+            match apart(v1, v2) {
+                1 => BoundOrdering::Excluded(true), // v2 [] v1
+                2 => BoundOrdering::Included(true), // v2 [ x ] v1
                 _ => BoundOrdering::Included(false), // v2 [ x .. y ] v1
             }
         }
-        (Bound::Excluded(v1), Bound::Unbounded) => beyond_limit(v1, b2_start),
-        (Bound::Unbounded, Bound::Included(v2)) => BoundOrdering::Included(is_limit(v2, !b2_start)),
-        (Bound::Unbounded, Bound::Excluded(v2)) => beyond_limit(v2, !b2_start),
-        (Bound::Unbounded, Bound::Unbounded) => BoundOrdering::Included(K::count() == 1),
+        (Bound::Excluded(v1), Bound::Unbounded) => beyond_limit(v1, side),
+        (Bound::Unbounded, Bound::Included(v2)) => {
+            BoundOrdering::Included(is_limit(v2, side.opposite()))
+        }
+        (Bound::Unbounded, Bound::Excluded(v2)) => beyond_limit(v2, side.opposite()),
+        (Bound::Unbounded, Bound::Unbounded) => BoundOrdering::Included(K::COUNT == 1),
     }
 }

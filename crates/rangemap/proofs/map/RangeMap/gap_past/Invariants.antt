@@ -1,6 +1,7 @@
+use Rattle.std.proofs.Common.{◌+◌}
 use Rattle.ranges.specs.Places.{low}
 use Rattle.rangemap.proofs.Gapping.{LooksOn}
 use Rattle.rangemap.proofs.map.RangeMap.gap_past.Given as goal
 
-abbrev pub invariant-loop-i : goal.invariant-loop-i
-invariant-loop-i g l = LooksOn g.K.Key l.self l.place (low g.K.Key l.start) l.i
+abbrev pub invariant-loop-item : goal.invariant-loop-item
+invariant-loop-item g l = LooksOn g.K.Key l.self.store l.place (low g.K.Key l.start) (l.first + l.item-index)

@@ -1,27 +1,36 @@
 use Rattle.std.proofs.Common.{Some, refl}
 use Rattle.ledger.specs.Ledger.{insert}
-use Rattle.rangemap.proofs.Bridges.{ends_within}
-use Rattle.rangemap.proofs.Does.{does_walked, does_settled, keeps_settled, walked_copy}
-use Rattle.rangemap.proofs.map.RangeMap.insert.Goals as goal
+use Rattle.rangemap.specs.Declines.{answer}
+use Rattle.rangemap.specs.Maps.{Does, Keeps}
 use Rattle.rangemap.specs.Ranges.{lo, hi}
+use Rattle.rangemap.proofs.Bridges.{ends_within}
+use Rattle.rangemap.proofs.Does.{does_walked, does_settled, walked_canonical}
+use Rattle.rangemap.proofs.map.RangeMap.insert.Goals as goal
+use Rattle.rangemap.proofs.map.RangeMap.insert.Goals.{After-settle}
 
-pub returns-then-len-self : goal.returns-then-len-self
-returns-then-len-self g c =
-    let range = c.args.range in
-    record {
-      does = does_walked g.K.Key g.V.Value.equals g.met.V.Value.lawful c.args.self.now (lo g.K.Key range) (hi g.K.Key range) (λ _. Some c.args.value) (insert (lo g.K.Key range) (hi g.K.Key range) c.args.value) (ends_within g.K.Key g.met.K.Key.within range) refl
-          _ c.len-then-len-self.result refl c.insert.ensures.changed c.len-then-len-self.ensures;
-      keeps = tt;
-    }
+pub invariant_of-self-clause-canonical : goal.invariant_of-self-clause-canonical
+invariant_of-self-clause-canonical g c =
+    let m = c.args.self.now in
+    let l = lo g.K.Key c.args.range in
+    let h = hi g.K.Key c.args.range in
+    walked_canonical g.K.Key g.V.PartialEq.eq g.met.V.Eq.laws m.store m.canonical l h (λ _. Some c.args.value) (insert l h c.args.value) (ends_within g.K.Key g.met.K.Key.within c.args.range) refl c.insert.new.self.items c.insert.ensures.changed
+
+pub returns-then-len-store-clause-does : goal.returns-then-len-store-clause-does
+returns-then-len-store-clause-does g c =
+    let m = c.args.self.now in
+    let l = lo g.K.Key c.args.range in
+    let h = hi g.K.Key c.args.range in
+    does_walked g.K.Key g.V.PartialEq.eq g.met.V.Eq.laws m.store m.canonical l h (λ _. Some c.args.value) (insert l h c.args.value) (ends_within g.K.Key g.met.K.Key.within c.args.range) refl _ c.len-then-len-store.result refl c.insert.ensures.changed c.len-then-len-store.ensures
+
+settled : (g : _) (c : After-settle g) → Does g.K.Key g.V.PartialEq.eq c.args.self.now.store (insert (lo g.K.Key c.args.range) (hi g.K.Key c.args.range) c.args.value) (answer c.settle.result) c.settle.new.self × Keeps c.args.self.now.store c.settle.result c.settle.new.self
+settled g c =
+    let m = c.args.self.now in
+    let l = lo g.K.Key c.args.range in
+    let h = hi g.K.Key c.args.range in
+    does_settled g.K.Key g.V.PartialEq.eq g.met.V.Eq.laws m.store m.canonical l h (λ _. Some c.args.value) (insert l h c.args.value) (ends_within g.K.Key g.met.K.Key.within c.args.range) refl c.copy.new.self _ c.settle.new.self c.copy.ensures refl refl c.insert-2.ensures.changed c.settle.result c.settle.ensures
+
+pub invariant_of-self-2-clause-canonical : goal.invariant_of-self-2-clause-canonical
+invariant_of-self-2-clause-canonical g c = (settled g c).0.step.canonical
 
 pub returns : goal.returns
-returns g c =
-    let eq = g.V.Value.equals in
-    let range = c.args.range in
-    let m = c.args.self.now in
-    let walked = walked_copy g.K.Key eq (lo g.K.Key range) (hi g.K.Key range) (λ _. Some c.args.value) m.items.items c.copy.new.work.items c.insert-2.new.items.items c.copy.ensures.items c.insert-2.ensures.changed in
-    record {
-      does = does_settled g.K.Key eq g.met.V.Value.lawful m (lo g.K.Key range) (hi g.K.Key range) (λ _. Some c.args.value) (insert (lo g.K.Key range) (hi g.K.Key range) c.args.value) (ends_within g.K.Key g.met.K.Key.within range) refl
-          _ c.settle.new.self refl refl walked c.settle.result c.settle.ensures;
-      keeps = keeps_settled m _ c.settle.new.self c.settle.result refl c.settle.ensures;
-    }
+returns g c = let s = settled g (goal.at.returns g c).After-settle in record { does = s.0; keeps = s.1 }

@@ -1,40 +1,43 @@
-use Rattle.std.proofs.Common.{sym, refl, arith}
-use Rattle.std.proofs.lemmas.Bool.{leb-true, leb-false}
+use Rattle.std.proofs.Common.{refl, ap, arith}
+use Rattle.rangemap.specs.Contents.{Contents}
 use Rattle.rangemap.proofs.Looks.{high_within}
-use Rattle.rangemap.proofs.Edits.{does_empty, does_connected, does_full, does_store}
-use Rattle.ranges.specs.Parts.{span as ends}
+use Rattle.rangemap.proofs.Edits.{does_empty, does_connected, does_full, does_store, store_canonical}
 use Rattle.rangemap.proofs.map.RangeMap.insert_disconnected.Goals as goal
 
-pub returns-then-is_empty : goal.returns-then-is_empty
-returns-then-is_empty g c =
+pub invariant_of-self-clause-canonical : goal.invariant_of-self-clause-canonical
+invariant_of-self-clause-canonical g c =
     let key = c.args.key in
-    record {
-      does = does_empty g.K.Key g.V.Value.equals g.met.V.Value.lawful c.args.self.now key c.args.value (high_within g.K.Key g.met.K.Key.within c.args.key.end) (leb-true (ends g.K.Key key).high (ends g.K.Key key).low (sym c.if-is_empty.ensures));
-      stored = (refl, refl);
-    }
+    let m = c.args.self.now in
+    let f = c.in-Err.ensures in
+    store_canonical g.K.Key g.V.PartialEq.eq g.met.V.Eq.laws m.store m.canonical key c.args.value (high_within g.K.Key g.met.K.Key.within key.end) (rw c.in-Some.ensures at c.in-Some.held.held) c.in-Err.addr f.within (rw c.in-Some.ensures at f.found) c.insert_at.new.self.items (ap (λ (x : Contents _ _). x.items) c.insert_at.ensures)
 
-pub returns-in-Ok : goal.returns-in-Ok
-returns-in-Ok g c =
+pub returns-in_default-clause-does : goal.returns-in_default-clause-does
+returns-in_default-clause-does g c =
     let key = c.args.key in
-    let l = leb-false (ends g.K.Key key).high (ends g.K.Key key).low (sym c.if-is_empty.ensures) in
+    let m = c.args.self.now in
+    does_empty g.K.Key g.V.PartialEq.eq g.met.V.Eq.laws m.store m.canonical key c.args.value (high_within g.K.Key g.met.K.Key.within key.end) c.in_default.ensures
+
+pub returns-in-Ok-clause-does : goal.returns-in-Ok-clause-does
+returns-in-Ok-clause-does g c =
+    let key = c.args.key in
+    let m = c.args.self.now in
     let f = c.in-Ok.ensures in
-    record { does = does_connected g.K.Key g.V.Value.equals g.met.V.Value.lawful c.args.self.now key c.args.value (high_within g.K.Key g.met.K.Key.within c.args.key.end) l c.in-Ok.field-0 f.within f.found; stored = (refl, refl) }
+    does_connected g.K.Key g.V.PartialEq.eq g.met.V.Eq.laws m.store m.canonical key c.args.value (high_within g.K.Key g.met.K.Key.within key.end) (rw c.in-Some.ensures at c.in-Some.held.held) c.in-Ok.field-0 f.within (rw c.in-Some.ensures at f.found)
 
-pub returns-then-len-self : goal.returns-then-len-self
-returns-then-len-self g c =
+pub returns-then-len-self-clause-does : goal.returns-then-len-self-clause-does
+returns-then-len-self-clause-does g c =
     let key = c.args.key in
-    let l = leb-false (ends g.K.Key key).high (ends g.K.Key key).low (sym c.if-is_empty.ensures) in
+    let m = c.args.self.now in
     let f = c.in-Err.ensures in
-    record { does = does_full g.K.Key g.V.Value.equals g.met.V.Value.lawful c.args.self.now key c.args.value (high_within g.K.Key g.met.K.Key.within c.args.key.end) l c.in-Err.addr f.within f.found (omega arith); stored = (refl, refl) }
+    does_full g.K.Key g.V.PartialEq.eq g.met.V.Eq.laws m.store m.canonical key c.args.value (high_within g.K.Key g.met.K.Key.within key.end) (rw c.in-Some.ensures at c.in-Some.held.held) c.in-Err.addr f.within (rw c.in-Some.ensures at f.found) (omega arith)
 
-pub returns-else-len-self : goal.returns-else-len-self
-returns-else-len-self g c =
+pub returns-else-len-self-clause-does : goal.returns-else-len-self-clause-does
+returns-else-len-self-clause-does g c =
     let key = c.args.key in
-    let l = leb-false (ends g.K.Key key).high (ends g.K.Key key).low (sym c.if-is_empty.ensures) in
+    let m = c.args.self.now in
     let f = c.in-Err.ensures in
-    record {
-      does =
-          does_store g.K.Key g.V.Value.equals g.met.V.Value.lawful c.args.self.now key c.args.value (high_within g.K.Key g.met.K.Key.within c.args.key.end) l c.in-Err.addr f.within f.found _ c.len-in-Err.result refl
-          c.len-in-Err.ensures c.insert_at.ensures.items;
-      stored = (c.in-Err.addr, c.insert_at.ensures.items);
-    }
+    does_store g.K.Key g.V.PartialEq.eq g.met.V.Eq.laws m.store m.canonical key c.args.value (high_within g.K.Key g.met.K.Key.within key.end) (rw c.in-Some.ensures at c.in-Some.held.held) c.in-Err.addr f.within (rw c.in-Some.ensures at f.found) _ c.len-in-Err.result refl
+    c.len-in-Err.ensures (ap (λ (x : Contents _ _). x.items) c.insert_at.ensures)
+
+pub returns-else-len-self-clause-stored : goal.returns-else-len-self-clause-stored
+returns-else-len-self-clause-stored g c = (c.in-Err.addr, ap (λ (x : Contents _ _). x.items) c.insert_at.ensures)

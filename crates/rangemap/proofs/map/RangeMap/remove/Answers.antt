@@ -1,52 +1,28 @@
-use Rattle.std.proofs.Common.{sym, refl, ap, arith}
-use Rattle.std.proofs.lemmas.Bool.{leb-true, leb-false}
-use Rattle.rangemap.specs.Items.{spans}
-use Rattle.rangemap.specs.Maps.{stored}
-use Rattle.rangemap.proofs.Helds.{held_stands}
-use Rattle.rangemap.proofs.Edits.{does_remove, does_remove_none, does_remove_full}
-use Rattle.ranges.specs.Parts.{span as ends}
+use Rattle.std.proofs.Common.{refl, arith}
+use Rattle.std.proofs.lemmas.Result.{err_from_is_err_and}
+use Rattle.rangemap.proofs.Edits.{remove_missed, remove_canonical, remove_taken, remove_full}
 use Rattle.rangemap.proofs.map.RangeMap.remove.Goals as goal
 
-pub returns-then-is_empty : goal.returns-then-is_empty
-returns-then-is_empty g c =
-    let key = ends g.K.Key c.args.key in
-    let l = leb-true key.high key.low (sym c.if-is_empty.ensures) in
-    record {
-      does =
-          does_remove_none g.K.Key g.V.Value.equals g.met.V.Value.lawful c.args.self.now key.low key.high c.len.result c.len.ensures
-          (λ r p a b. let z : ⊥ = omega arith in absurd z);
-      keeps = λ r. tt;
-    }
-
-pub returns-in_default : goal.returns-in_default
-returns-in_default g c =
+pub returns-in_default-address_of-clause-does : goal.returns-in_default-address_of-clause-does
+returns-in_default-address_of-clause-does g c =
     let m = c.args.self.now in
-    let key = ends g.K.Key c.args.key in
-    record {
-      does =
-          does_remove_none g.K.Key g.V.Value.equals g.met.V.Value.lawful m key.low key.high c.len-in_default.result c.len-in_default.ensures
-          (λ r p a b. held_stands 0 key.low key.high (stored g.K.Key m) c.in_default.field-0 (c.in_default.ensures.found (g.K.Key.count, r)) p (omega arith) (omega arith));
-      keeps = λ r. tt;
-    }
+    remove_missed g.K.Key g.V.PartialEq.eq g.met.V.Eq.laws m.store m.canonical c.args.key c.in-Some.held.range c.in_default-address_of.field-0 _ c.in-Some.ensures c.in_default-address_of.ensures.found c.len-in_default-address_of.ensures
 
-pub returns-then-cut_back : goal.returns-then-cut_back
-returns-then-cut_back g c =
-    let key = ends g.K.Key c.args.key in
-    let l = leb-false key.high key.low (sym c.if-is_empty.ensures) in
-    record {
-      does =
-          does_remove g.K.Key g.V.Value.equals g.met.V.Value.lawful c.args.self.now key.low key.high _ c.len-then-cut_back.result refl c.len-then-cut_back.ensures l
-          c.if-cut_back.ensures.taken;
-      keeps = λ r. tt;
-    }
+pub invariant_of-self : goal.invariant_of-self
+invariant_of-self g c =
+    let m = c.args.self.now in
+    let walk = c.cut_back.ensures in
+    let canonical = remove_canonical g.K.Key g.V.PartialEq.eq g.met.V.Eq.laws m.store m.canonical c.args.key c.in-Some.held.range c.in-Some.ensures c.in-Some.held.held _ c.cut_back.new.self.items c.cut_back.result (rw c.in-Some.ensures at walk.taken) in
+    ((walk.few, (omega (arith, walk.room, m.store.roomy), (m.store.spare, tt))), (m.limited, (canonical, tt)))
 
-pub returns-else-cut_back : goal.returns-else-cut_back
-returns-else-cut_back g c =
-    let key = ends g.K.Key c.args.key in
-    let l = leb-false key.high key.low (sym c.if-is_empty.ensures) in
-    record {
-      does =
-          does_remove_full g.K.Key g.V.Value.equals g.met.V.Value.lawful c.args.self.now key.low key.high _ refl l
-          (λ r. let t = c.if-cut_back.ensures.taken r in (ap (spans g.K.Key) t.0, t.1));
-      keeps = λ r. (c.if-cut_back.ensures.taken (g.K.Key.count, r)).0;
-    }
+pub returns-clause-does : goal.returns-clause-does
+returns-clause-does g c =
+    let m = c.args.self.now in
+    remove_taken g.K.Key g.V.PartialEq.eq g.met.V.Eq.laws m.store m.canonical c.args.key c.in-Some.held.range c.in-Some.ensures c.in-Some.held.held _ _ refl c.len-2.ensures (rw c.in-Some.ensures at c.in_ok-cut_back.ensures.taken)
+
+pub returns-in_err-cut_back-clause-does : goal.returns-in_err-cut_back-clause-does
+returns-in_err-cut_back-clause-does g c =
+    let p = err_from_is_err_and c.from_residual.result c.from_residual.ensures.1 in
+    let taken = rw c.in-Some.ensures at c.in_err-cut_back.ensures.taken in
+    let m = c.args.self.now in
+    rw (p.1, p.2, taken.0) (remove_full g.K.Key g.V.PartialEq.eq g.met.V.Eq.laws m.store m.canonical c.args.key c.in-Some.held.range c.in-Some.ensures c.in-Some.held.held _ _ refl taken.1 (omega arith))

@@ -1,19 +1,23 @@
 use Rattle.std.proofs.Common.{refl}
 use Rattle.ledger.specs.Ledger.{update}
-use Rattle.rangemap.proofs.Bridges.{ends_within}
-use Rattle.rangemap.proofs.Does.{does_settled, keeps_settled, walked_copy}
-use Rattle.rangemap.proofs.map.RangeMap.update.Goals as goal
+use Rattle.rangemap.specs.Declines.{answer}
+use Rattle.rangemap.specs.Maps.{Does, Keeps}
 use Rattle.rangemap.specs.Ranges.{lo, hi}
+use Rattle.rangemap.proofs.Bridges.{ends_within}
+use Rattle.rangemap.proofs.Does.{does_settled}
+use Rattle.rangemap.proofs.map.RangeMap.update.Goals as goal
+use Rattle.rangemap.proofs.map.RangeMap.update.Goals.{After-settle}
+
+settled : (g : _) (c : After-settle g) → Does g.K.Key g.V.PartialEq.eq c.args.self.now.store (update (lo g.K.Key c.args.range) (hi g.K.Key c.args.range) (g.C.Change.makes c.args.change.now)) (answer c.settle.result) c.settle.new.self × Keeps c.args.self.now.store c.settle.result c.settle.new.self
+settled g c =
+    let m = c.args.self.now in
+    let l = lo g.K.Key c.args.range in
+    let h = hi g.K.Key c.args.range in
+    let f = g.C.Change.makes c.args.change.now in
+    does_settled g.K.Key g.V.PartialEq.eq g.met.V.Eq.laws m.store m.canonical l h f (update l h f) (ends_within g.K.Key g.met.K.Key.within c.args.range) refl c.copy.new.self _ c.settle.new.self c.copy.ensures refl refl c.update.ensures.changed c.settle.result c.settle.ensures
+
+pub invariant_of-self-clause-canonical : goal.invariant_of-self-clause-canonical
+invariant_of-self-clause-canonical g c = (settled g c).0.step.canonical
 
 pub returns : goal.returns
-returns g c =
-    let eq = g.V.Value.equals in
-    let range = c.args.range in
-    let f = g.C.Change.makes c.args.change.now in
-    let m = c.args.self.now in
-    let walked = walked_copy g.K.Key eq (lo g.K.Key range) (hi g.K.Key range) f m.items.items c.copy.new.work.items c.update.new.items.items c.copy.ensures.items c.update.ensures.changed in
-    record {
-      does = does_settled g.K.Key eq g.met.V.Value.lawful m (lo g.K.Key range) (hi g.K.Key range) f (update (lo g.K.Key range) (hi g.K.Key range) f) (ends_within g.K.Key g.met.K.Key.within range) refl
-          _ c.settle.new.self refl refl walked c.settle.result c.settle.ensures;
-      keeps = keeps_settled m _ c.settle.new.self c.settle.result refl c.settle.ensures;
-    }
+returns g c = let s = settled g (goal.at.returns g c).After-settle in record { does = s.0; keeps = s.1 }

@@ -1,12 +1,28 @@
-use Rattle.rangemap.proofs.Gapping.{gaps_stuck, gaps_next}
+use Rattle.std.proofs.Common.{◌≡◌, ℕ, ◌∷◌, ◌∙◌, sym, refl, subst, arith}
+use Rattle.ledger.specs.Spans.{gaps}
+use Rattle.rangemap.specs.Maps.{stored}
+use Rattle.rangemap.specs.Walks.{gap_end, gap_of, past}
+use Rattle.rangemap.proofs.Gapping.{gaps_next, gaps_reach}
 use Rattle.rangemap.proofs.map.walkers.Gaps.next.Goals as goal
 
-pub returns-in_default-left_past : goal.returns-in_default-left_past
-returns-in_default-left_past g c =
-    let w = c.args.self.now in
-    gaps_stuck g.K.Key c.args.map.now w.place w.left c.in-Some.gap c.in-Some.ensures c.end_place-place.result c.end_place-place.ensures c.in_default-left_past.ensures
+pub returns-in_err-move_to : goal.returns-in_err-move_to
+returns-in_err-move_to g c =
+    let m = c.args.map.now in
+    let stays = c.in_err-move_to.ensures in
+    let reach = gaps_reach g.K.Key m.store m.canonical.rises c.args.self.now.at.place c.in_ok-gap.gap c.in_ok-gap.ensures in
+    rw (stays.0, c.from_residual-in_err-move_to.ensures)
+    (record { place = refl; left = refl; none = λ ready. absurd (stays.1 (omega (arith, reach.0, c.end_place.ensures)) (omega (arith, reach.1, ready, c.end_place.ensures))) })
 
 pub returns : goal.returns
 returns g c =
-    let w = c.args.self.now in
-    gaps_next g.K.Key c.args.map.now w.place w.left c.in-Some.gap c.in-Some.ensures c.end_place-place.result c.in-Some-left_past.left c.end_place-place.ensures c.in-Some-left_past.ensures
+    let m = c.args.map.now in
+    let p : ℕ = c.args.self.now.at.place in
+    let all = gaps g.K.Key.COUNT (stored g.K.Key m.store) in
+    let step = c.in_ok-move_to.ensures in
+    let moves = step.0 ∙ c.end_place.ensures in
+    record {
+      falls = step.1;
+      total = omega (arith, step.0, step.2);
+      moves = moves;
+      next = λ _. subst (λ q. past gap_end p all ≡ gap_of g.K.Key c.in_ok-gap.gap ∷ past gap_end q all) (sym moves) (gaps_next g.K.Key m.store m.canonical.rises p c.in_ok-gap.gap c.in_ok-gap.ensures);
+    }

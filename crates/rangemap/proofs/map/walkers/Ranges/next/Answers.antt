@@ -1,20 +1,45 @@
-use Rattle.std.proofs.Common.{arith}
-use Rattle.rangemap.proofs.Walking.{ranges_end, ranges_stuck, ranges_next}
+use Rattle.std.proofs.Common.{◌≡◌, ◌<◌, ◌∷◌, get_or, length, sym, ◌∙◌, refl, subst, arith, ap}
+use Rattle.rangemap.specs.Maps.{Ready}
+use Rattle.rangemap.specs.Walks.{Walks, end, past}
+use Rattle.rangemap.proofs.Walking.{ranges_next, ranges_none, ranges_reach}
 use Rattle.rangemap.proofs.map.walkers.Ranges.next.Goals as goal
+use Rattle.rangemap.proofs.map.walkers.Ranges.next.Goals.{After-past}
 
-pub returns-then-i-len : goal.returns-then-i-len
-returns-then-i-len g c =
-    let w = c.args.self.now in
-    ranges_end g.K.Key c.args.map.now w.place w.left c.first_past-i.result c.first_past-i.ensures.splits (omega arith)
+pub returns-in_err-item : goal.returns-in_err-item
+returns-in_err-item g c =
+    let m = c.args.map.now in
+    let w = c.args.self.now.at in
+    let none = ranges_none g.K.Key m.store m.canonical.rises w.place c.first_past.result c.first_past.ensures.splits (omega (arith, ap length c.as_slice.ensures, c.in_err-item.ensures.lookup.3)) in
+    subst (λ r. Walks (end g.K.Key) (Ready g.K.Key) m.store.items.items w.place w.left r w.place w.left) (sym c.from_residual.ensures) (record { place = refl; left = refl; none = λ _. none })
 
-pub returns-in_default : goal.returns-in_default
-returns-in_default g c =
-    let w = c.args.self.now in
-    ranges_stuck g.K.Key c.args.map.now w.place w.left c.first_past-i.result c.first_past-i.ensures.splits c.index.result.now (omega arith)
-    c.index.ensures c.past-place.result c.past-place.ensures c.in_default.ensures
+-- the item was read at the index
+index : (g : _) (c : After-past g) → c.first_past.result < length c.args.map.now.store.items.items
+index g c = omega (arith, ap length c.as_slice.ensures, c.in_ok-item.ensures.lookup.3.0)
+
+read : (g : _) (c : After-past g) → c.in_ok-item.field-0.now ≡ get_or c.args.map.now.store.items.items c.first_past.result c.in_ok-item.field-0.now
+read g c = subst (λ xs. c.in_ok-item.field-0.now ≡ get_or xs c.first_past.result c.in_ok-item.field-0.now) c.as_slice.ensures c.in_ok-item.ensures.lookup.1
+
+pub returns-in_err-move_to : goal.returns-in_err-move_to
+returns-in_err-move_to g c =
+    let m = c.args.map.now in
+    let at = (goal.at.returns-in_err-move_to g c).After-past in
+    let stays = c.in_err-move_to.ensures in
+    let reach = ranges_reach g.K.Key m.store m.canonical.rises c.args.self.now.at.place c.first_past.result c.first_past.ensures.splits c.in_ok-item.field-0.now (index g at) (read g at) in
+    rw (stays.0, c.from_residual-in_err-move_to.ensures)
+    (record { place = refl; left = refl; none = λ ready. absurd (stays.1 (omega (arith, reach.0, c.past.ensures)) (omega (arith, reach.1, ready, c.past.ensures))) })
 
 pub returns : goal.returns
 returns g c =
-    let w = c.args.self.now in
-    ranges_next g.K.Key c.args.map.now w.place w.left c.first_past-i.result c.first_past-i.ensures.splits c.index.result.now (omega arith)
-    c.index.ensures c.past-place.result c.in-Some.left c.past-place.ensures c.in-Some.ensures
+    let m = c.args.map.now in
+    let xs = m.store.items.items in
+    let w = c.args.self.now.at in
+    let x = c.in_ok-item.field-0.now in
+    let at = (goal.at.returns g c).After-past in
+    let step = c.in_ok-move_to.ensures in
+    let moves = step.0 ∙ c.past.ensures in
+    record {
+      falls = step.1;
+      total = omega (arith, step.0, step.2);
+      moves = moves;
+      next = λ _. subst (λ q. past (end g.K.Key) w.place xs ≡ x ∷ past (end g.K.Key) q xs) (sym moves) (ranges_next g.K.Key m.store m.canonical.rises w.place c.first_past.result c.first_past.ensures.splits x (index g at) (read g at));
+    }
