@@ -26,7 +26,7 @@ pub struct CalendarSecond {
 }
 
 impl CalendarSecond {
-    // From the day, counted from 0 at day 1 of 1970, and the second of the day.
+    // From the day, counted from 0 at day 1 of 1970, and the second of the day: a constructor, as no one value is converted.
     pub fn new(day: u32, second: u32) -> Result<CalendarSecond, KindRefusal>
         ensures { MatchResult result (λ k. (k.day ≡ day) × (k.second ≡ second)) (λ e. (e ≡ KindRefusal.BadKey) × (day < 47482 → seconds_in day ≤ second)) }
     {

@@ -12,6 +12,7 @@ pub struct Response {
 }
 
 impl Response {
+    // From both fields: a constructor, as no one value is converted.
     pub fn new(number: u16, polarity: Polarity) -> Result<Response, KindRefusal>
         ensures { MatchResult result (λ v. (v.number ≡ number) × (v.polarity ≡ polarity)) (λ e. (e ≡ KindRefusal.BadKey) × (number ≡ 0)) }
     {

@@ -11,7 +11,8 @@ use super::item::Item;
 use lawful::{Key, Value};
 use ranges::AnyRange;
 
-// `connected` is the Rust's flag, here and below: whether touching ranges count.
+// `connected` is the Rust's flag, here and below: whether touching ranges count. The first two are a line each over the answer
+// of one comparison, and promise different things of it.
 
 // Whether a range ends before the other starts; if touching ranges count as connected, with a key between.
 fn is_before<K: Key>(a: &AnyRange<K>, b: &AnyRange<K>, connected: bool) -> bool

@@ -25,7 +25,8 @@ impl Tally {
         }
     }
 
-    // Takes the next chunk of the input; a sample may lie across two chunks.
+    // Takes the next chunk of the input; a sample may lie across two chunks. (Of every input that may have come so far, where a
+    // ghost field would say it of one.)
     pub fn take(&mut self, chunk: &[u8])
         ensures { (seen : List ℕ) → Tallied seen self.old → Tallied (seen ++ chunk.now) self.new }
     {

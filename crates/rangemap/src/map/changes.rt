@@ -1,4 +1,5 @@
-// The calls that change the map.
+// The calls that change the map. Range and value are given one by one, as in the Rust; `Keeps` is one word for what each of
+// three calls promises where it is declined.
 ghost use Rattle.std.specs.Prelude.{◌≡◌, IfErr};
 ghost use Rattle.ledger.specs.Ledger.{insert as inserting, insert_disconnected as storing, remove as removing, update as updating};
 ghost use Rattle.ranges.specs.Parts.{span as ends};

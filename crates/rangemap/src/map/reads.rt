@@ -13,7 +13,7 @@ use lawful::{Key, Value};
 use ranges::AnyRange;
 
 impl<K: Key, V: Value> RangeMap<K, V> {
-    // The last stored range that shares a place with the key; if connected, else the last that touches it; else the place where the key would stand.
+    // The last stored range that shares a place with the key; if connected, else the last that touches it; else the place where the key would stand. (The flag is the Rust's.)
     pub(super) fn address_of(&self, key: &HeldRange<K>, connected: bool) -> Result<usize, usize>
         ensures within { Index (length self.now.store.items.items) result }
         ensures found { Searched connected (ends K.Key.own key.now.range).low (ends K.Key.own key.now.range).high (stored K.Key.own self.now.store) result }
