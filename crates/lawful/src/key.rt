@@ -20,35 +20,35 @@ pub trait Key: Copy + Drop + Ord + Sized {
         ensures { MatchOption result (COUNT ≤ p) (λ k. place k ≡ p) };
 
     // The key one place up, none past the last.
-    final fn succ(&self) -> Option<Self>
+    fn succ(&self) -> Option<Self>
         ensures { MatchOption result (place self.now + 1 ≡ COUNT) (λ k. place k ≡ place self.now + 1) }
     {
         Self::at(self.place() + 1)
     }
 
     // The key one place down, none before the first.
-    final fn pred(&self) -> Option<Self>
+    fn pred(&self) -> Option<Self>
         ensures { MatchOption result (place self.now ≡ 0) (λ k. place k + 1 ≡ place self.now) }
     {
         self.place().checked_sub(1).and_then(|p| Self::at(p))
     }
 
     // The first key.
-    final fn min() -> Self
+    fn min() -> Self
         ensures { place result ≡ 0 }
     {
         Self::at(0).unwrap()
     }
 
     // The last key.
-    final fn max() -> Self
+    fn max() -> Self
         ensures { place result + 1 ≡ COUNT }
     {
         Self::at(Self::COUNT - 1).unwrap()
     }
 
     // How many places up the other key is, 0 where it comes earlier.
-    final fn distance(&self, other: &Self) -> u64
+    fn distance(&self, other: &Self) -> u64
         ensures { result ≡ place other.now - place self.now }
     {
         other.place().saturating_sub(self.place())
