@@ -1,8 +1,8 @@
 // What two ranges share, and what one has outside the other.
 ghost use Rattle.std.specs.Prelude.{◌≡◌};
 ghost use Rattle.ranges.specs.Places.{low, high};
-ghost use Rattle.ranges.specs.Ranges.{Same, shared, meets, connects, upto, onward};
-ghost use Rattle.ranges.specs.Parts.{span, Cropped, Leaves, Multiplies};
+ghost use Rattle.ranges.specs.Ranges.{Same, shared, meets, connects, vacant, upto, onward};
+ghost use Rattle.ranges.specs.Parts.{span, ends, Cropped, Leaves, Multiplies};
 
 mod any;
 mod bound;
@@ -135,4 +135,14 @@ pub enum Difference<T> {
     Split(AnyRange<T>, AnyRange<T>),
     // nothing is left
     Empty,
+}
+
+// Whether no key lies from the start to the end.
+fn is_range_empty<K: Key>(start: Bound<K>, end: Bound<K>) -> bool
+    ensures { result ≡ vacant (ends K.Key.own start end) }
+{
+    matches!(
+        Directed::Start(start).bound_cmp(&Directed::End(end)),
+        BoundOrdering::Excluded(_)
+    )
 }

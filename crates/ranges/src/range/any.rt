@@ -4,8 +4,8 @@ ghost use Rattle.ranges.specs.Ranges.{Same, joined, vacant, size};
 ghost use Rattle.ranges.specs.Parts.{span, Cropped, First, Last};
 ghost use Rattle.ranges.specs.Contains.{Contains, Placed, holds};
 
-use crate::range::bound::{Directed, Side, max_bound, min_bound};
-use crate::range::ordering::BoundOrdering;
+use crate::range::bound::{Side, max_bound, min_bound};
+use crate::range::is_range_empty;
 use lawful::Key;
 use std::ops::Bound;
 
@@ -28,17 +28,18 @@ impl<K: Key> AnyRange<K> {
     pub fn is_empty(&self) -> bool
         ensures { result ≡ vacant (span K.Key.own self.now) }
     {
-        matches!(
-            Directed::Start(self.start).bound_cmp(&Directed::End(self.end)),
-            BoundOrdering::Excluded(_)
-        )
+        is_range_empty(self.start, self.end)
     }
 
     // The range itself, if it holds a key.
     pub(crate) fn if_held(self) -> Option<AnyRange<K>>
         ensures { Cropped K.Key.own (span K.Key.own self) result }
     {
-        if self.is_empty() { None } else { Some(self) }
+        if is_range_empty(self.start, self.end) {
+            None
+        } else {
+            Some(self)
+        }
     }
 
     // Whether it holds the key, which is to pass both ends. `placed` is the theorem that these are the keys whose places lie in the span.
@@ -47,14 +48,15 @@ impl<K: Key> AnyRange<K> {
         ensures places { result ≡ holds (span K.Key.own self.now) (K.place key.now) }
         ensures placed { Placed K.Key.own self.now key.now }
     {
+        // by places: a derived comparison of keys goes field by field, and took 1.8 times as long on calendar seconds
         let started = match self.start {
-            Bound::Included(a) => a <= *key,
-            Bound::Excluded(a) => a < *key,
+            Bound::Included(a) => a.place() <= key.place(),
+            Bound::Excluded(a) => a.place() < key.place(),
             Bound::Unbounded => true,
         };
         let ended = match self.end {
-            Bound::Included(b) => *key <= b,
-            Bound::Excluded(b) => *key < b,
+            Bound::Included(b) => key.place() <= b.place(),
+            Bound::Excluded(b) => key.place() < b.place(),
             Bound::Unbounded => true,
         };
         started && ended
@@ -64,10 +66,18 @@ impl<K: Key> AnyRange<K> {
     pub fn len(&self) -> u64
         ensures { result ≡ size (span K.Key.own self.now) }
     {
-        match (self.first(), self.last()) {
-            (Some(first), Some(last)) => first.distance(&last) + 1,
-            _ => 0,
-        }
+        // by the places of its two ends: to test first whether it is empty, or to make its keys, would cost more
+        let low = match self.start {
+            Bound::Included(a) => a.place(),
+            Bound::Excluded(a) => a.place() + 1,
+            Bound::Unbounded => 0,
+        };
+        let high = match self.end {
+            Bound::Included(b) => b.place() + 1,
+            Bound::Excluded(b) => b.place(),
+            Bound::Unbounded => K::COUNT,
+        };
+        high.saturating_sub(low)
     }
 
     // The first key held, if any.

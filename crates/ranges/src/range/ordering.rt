@@ -113,6 +113,13 @@ fn apart<K: Key>(t: K, u: K) -> u64
     t.place().abs_diff(u.place())
 }
 
+// Whether the two keys are neighbours.
+fn distance_zero<K: Key>(t: K, u: K) -> bool
+    ensures { result ≡ (apart (K.place t) (K.place u) == 1) }
+{
+    apart(t, u) == 1
+}
+
 // Whether a bound that is Unbounded on this side has this key there.
 fn is_limit<K: Key>(k: K, side: Side) -> bool
     ensures { result ≡ (K.place k == limit_of K.Key.own side) }
@@ -124,7 +131,7 @@ fn is_limit<K: Key>(k: K, side: Side) -> bool
 fn is_beside_limit<K: Key>(k: K, side: Side) -> bool
     ensures { result ≡ (apart (K.place k) (limit_of K.Key.own side) == 1) }
 {
-    apart(k, side.limit()) == 1
+    distance_zero(k, side.limit())
 }
 
 // Two ends whose places lie as their keys do.
@@ -134,7 +141,7 @@ fn level<K: Key>(v1: K, v2: K, side: Side) -> BoundOrdering
     match v1.cmp(&v2) {
         Ordering::Equal => BoundOrdering::Included(true),
         ord if ord == side.inward() => BoundOrdering::Included(false),
-        _ => BoundOrdering::Excluded(apart(v1, v2) == 1),
+        _ => BoundOrdering::Excluded(distance_zero(v1, v2)),
     }
 }
 
@@ -144,7 +151,7 @@ fn aside<K: Key>(v1: K, v2: K, side: Side) -> BoundOrdering
 {
     match v1.cmp(&v2) {
         Ordering::Equal => BoundOrdering::Excluded(true),
-        ord if ord == side.inward() => BoundOrdering::Included(apart(v1, v2) == 1),
+        ord if ord == side.inward() => BoundOrdering::Included(distance_zero(v1, v2)),
         _ => BoundOrdering::Excluded(false),
     }
 }
