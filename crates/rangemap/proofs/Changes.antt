@@ -57,7 +57,7 @@ module _ {K V : Type 0} (g : Ghosts K) {eq : V → V → Bool} (laws : IsEquival
   here : (w : Walk eq l h m (hi g key) old (listed g xs) addr (span_at g item)) × From (hi g key) w.back
   here = subst (λ s. (w : Walk eq l h m (hi g key) old (listed g xs) addr s) × From (hi g key) w.back) (same_here g xs.items item stands.at.1 lt read) (stands.at.1, stands.at.2)
 
-  item_full : Full g item.key
+  pub item_full : Full g item.key
   item_full = walk_full here.0 tight
 
   rest_after : (part : Option (ProductArg K)) → After g key item.key part → Rest eq l h m (min (hi g key) (hi g item.key)) (span_at g item ∷ here.0.back) (tail_after g eq item.value blank part (drop (addr + 1) (listed g xs)))
@@ -125,7 +125,7 @@ module _ {K V : Type 0} (g : Ghosts K) {eq : V → V → Bool} (laws : IsEquival
     subject_part : Before g key item.key (Some (Subject r))
     subject_part = part_is (Some (Subject r)) some
 
-    subject_is : Full g r × (lo g r ≡ l) × (hi g r ≡ lo g item.key)
+    pub subject_is : Full g r × (lo g r ≡ l) × (hi g r ≡ lo g item.key)
     subject_is = (omega (arith, subject_part.1.low, subject_part.1.high, subject_part.1.full), omega (arith, subject_part.1.low, t.left), omega (arith, subject_part.1.high, t.low))
 
     -- nothing before is connected
@@ -181,7 +181,7 @@ module _ {K V : Type 0} (g : Ghosts K) (eq : V → V → Bool) (xs zs : Contents
   long : length (take (address at) (listed g xs)) ≡ address at
   long = length-take-le (address at) (listed g xs) (simp length-map (omega arith))
 
-  left_tail : drop (prev + 1) (listed g zs) ≡ drop (next at) (listed g xs)
+  pub left_tail : drop (prev + 1) (listed g zs) ≡ drop (next at) (listed g xs)
   left_tail = ap (λ k. drop k (listed g zs)) step ∙ ap (drop (address at)) edit ∙ drop_at (take (address at) (listed g xs)) (drop (next at) (listed g xs)) (address at) long
 
   left_front : take prev (listed g zs) ≡ take (address at - 1) (listed g xs)

@@ -23,18 +23,18 @@ piece_not l h v xs e = cond-false _ _ _ (le-ltb l h e)
 
 -- what is left of a range without another that holds a place
 module _ {K : Type 0} (keys : Ghosts K) (x y : Ends) (full : Held y) where
-  leaves_before : (r : AnyRange K) → Leaves keys x y (Before r) → Left x y (ends keys r) × NoRight x y
+  pub leaves_before : (r : AnyRange K) → Leaves keys x y (Before r) → Left x y (ends keys r) × NoRight x y
   leaves_before r (inl (bare, h, s)) = let z : ⊥ = omega arith in absurd z
   leaves_before r (inr (a, b, c, (low, high))) = (record { low = low; high = high; full = omega (arith, low, high, b) }, c)
 
-  leaves_after : (r : AnyRange K) → Leaves keys x y (After r) → NoLeft x y × Right x y (ends keys r)
+  pub leaves_after : (r : AnyRange K) → Leaves keys x y (After r) → NoLeft x y × Right x y (ends keys r)
   leaves_after r (a, b, c, (low, high)) = (b, record { low = low; high = high; full = omega (arith, low, high, c) })
 
-  leaves_split : (l r : AnyRange K) → Leaves keys x y (Split l r) → Left x y (ends keys l) × Right x y (ends keys r)
+  pub leaves_split : (l r : AnyRange K) → Leaves keys x y (Split l r) → Left x y (ends keys l) × Right x y (ends keys r)
   leaves_split l r (a, b, c, (low, high), (low', high')) =
       (record { low = low; high = high; full = omega (arith, low, high, b) }, record { low = low'; high = high'; full = omega (arith, low', high', c) })
 
-  leaves_empty : Leaves keys x y Empty → NoLeft x y × NoRight x y
+  pub leaves_empty : Leaves keys x y Empty → NoLeft x y × NoRight x y
   leaves_empty (inl bare) = (omega (arith, bare), omega (arith, bare))
   leaves_empty (inr (a, b, c)) = (b, c)
 
@@ -65,13 +65,13 @@ module _ {K V : Type 0} (keys : Ghosts K) (xs : List (Item K V)) (i : ℕ) (x : 
       ap (spans keys) (set_split xs i _ l) ∙ (map-append (span_at keys) (take i xs) _ ∙
       ap₂ (λ (us ws : List (Span V)). us ++ part r ∷ ws) (sym (take-map (span_at keys) i xs)) (sym (drop-map (span_at keys) (suc i) xs) ∙ ap (λ n. drop n (spans keys xs)) (sym (add-one i))))
 
-  gave_before : (r : AnyRange K) → Left (ends keys x.key) (ends keys key) (ends keys r) → NoRight (ends keys x.key) (ends keys key) → Gave (ends keys key).low (ends keys key).high (spans keys xs) i (spans keys (set xs i (record { key = r; value = x.value })))
+  pub gave_before : (r : AnyRange K) → Left (ends keys x.key) (ends keys key) (ends keys r) → NoRight (ends keys x.key) (ends keys key) → Gave (ends keys key).low (ends keys key).high (spans keys xs) i (spans keys (set xs i (record { key = r; value = x.value })))
   gave_before r h n = gave _ (part r ∷ rest) (set_spans r) (sym (left_there r _ h ∙ ap (λ ws. part r ∷ ws) (piece_not _ _ _ rest n)))
 
-  gave_after : (r : AnyRange K) → NoLeft (ends keys x.key) (ends keys key) → Right (ends keys x.key) (ends keys key) (ends keys r) → Gave (ends keys key).low (ends keys key).high (spans keys xs) i (spans keys (set xs i (record { key = r; value = x.value })))
+  pub gave_after : (r : AnyRange K) → NoLeft (ends keys x.key) (ends keys key) → Right (ends keys x.key) (ends keys key) (ends keys r) → Gave (ends keys key).low (ends keys key).high (spans keys xs) i (spans keys (set xs i (record { key = r; value = x.value })))
   gave_after r n h = gave _ (part r ∷ rest) (set_spans r) (sym (piece_not _ _ _ _ n ∙ right_there r rest h))
 
-  gave_split : (a b : AnyRange K) → Left (ends keys x.key) (ends keys key) (ends keys a) → Right (ends keys x.key) (ends keys key) (ends keys b) →
+  pub gave_split : (a b : AnyRange K) → Left (ends keys x.key) (ends keys key) (ends keys a) → Right (ends keys x.key) (ends keys key) (ends keys b) →
       Gave (ends keys key).low (ends keys key).high (spans keys xs) i (spans keys (insert (set xs i (record { key = b; value = x.value })) i (record { key = a; value = x.value })))
   gave_split a b h k =
       gave _ (part a ∷ part b ∷ rest)
@@ -79,15 +79,20 @@ module _ {K V : Type 0} (keys : Ghosts K) (xs : List (Item K V)) (i : ℕ) (x : 
       ap₂ (λ (us ws : List (Span V)). us ++ part a ∷ ws) (ap (spans keys) (take-set xs i _) ∙ sym (take-map (span_at keys) i xs)) (ap (spans keys) (drop-set xs i _ l) ∙ ap (λ (ws : List (Span V)). part b ∷ ws) (sym (drop-map (span_at keys) (i + 1) xs))))
       (sym (left_there a _ h ∙ ap (λ ws. part a ∷ ws) (right_there b rest k)))
 
-  gave_empty : NoLeft (ends keys x.key) (ends keys key) → NoRight (ends keys x.key) (ends keys key) → Gave (ends keys key).low (ends keys key).high (spans keys xs) i (spans keys (remove xs i))
+  pub gave_empty : NoLeft (ends keys x.key) (ends keys key) → NoRight (ends keys x.key) (ends keys key) → Gave (ends keys key).low (ends keys key).high (spans keys xs) i (spans keys (remove xs i))
   gave_empty h k =
       gave _ rest
       (map-append (span_at keys) (take i xs) _ ∙
       ap₂ (λ (us ws : List (Span V)). us ++ ws) (sym (take-map (span_at keys) i xs)) (sym (drop-map (span_at keys) (suc i) xs) ∙ ap (λ n. drop n (spans keys xs)) (sym (add-one i))))
       (sym (piece_not _ _ _ _ h ∙ piece_not _ _ _ rest k))
 
-  starts_before : (r : AnyRange K) → Left (ends keys x.key) (ends keys key) (ends keys r) → HoldsAt (λ y. y.low < (ends keys key).low) (spans keys xs) i
+  pub starts_before : (r : AnyRange K) → Left (ends keys x.key) (ends keys key) (ends keys r) → HoldsAt (λ y. y.low < (ends keys key).low) (spans keys xs) i
   starts_before r h = at_span keys (λ y. y.low < (ends keys key).low) xs i x l (subst (λ (y : Item K V). (span_at keys y).low < (ends keys key).low) e (omega (arith, h.low, h.high, h.full)))
+
+  pub reaches_past : (a b : AnyRange K) → Left (ends keys x.key) (ends keys key) (ends keys a) → Right (ends keys x.key) (ends keys key) (ends keys b) → HoldsAt (λ y. (y.low < (ends keys key).low) × ((ends keys key).high < y.high)) (spans keys xs) i
+  reaches_past a b h k =
+      at_span keys (λ y. (y.low < (ends keys key).low) × ((ends keys key).high < y.high)) xs i x l
+      (subst (λ (y : Item K V). ((span_at keys y).low < (ends keys key).low) × ((ends keys key).high < (span_at keys y).high)) e (omega (arith, h.low, h.high, h.full), omega (arith, k.low, k.high, k.full)))
 
   -- the turn, from what is left of the item without the key
   module _ (full : Held (ends keys key)) where

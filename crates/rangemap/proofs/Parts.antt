@@ -38,8 +38,17 @@ pub record Multiplied {K : Type 0} (g : Ghosts K) (a b : AnyRange K) (r : Produc
 pub none_some : {X : Type 0} (x : X) → ◌≡◌ {A = Option X} None (Some x) → ⊥
 none_some x e = let z : ◌≡◌ {A = ℕ} 0 1 = cc in omega arith
 
+pub some_same : {X : Type 0} (x y : X) → ◌≡◌ {A = Option X} (Some x) (Some y) → x ≡ y
+some_same x y e = cc
+
 -- where no part is the object's, it does not start first
 pub not_object : {K : Type 0} (g : Ghosts K) (a b : AnyRange K) (p : Option (ProductArg K)) → Before g a b p → ((r : AnyRange K) → p ≡ Some (Object r) → ⊥) → lo g a ≤ lo g b
 not_object g a b None is none = omega arith
 not_object g a b (Some (Subject r)) is none = omega (arith, is.0)
 not_object g a b (Some (Object r)) is none = absurd (none r refl)
+
+-- where no part is the object's, it does not end last
+pub after_none : {K : Type 0} (g : Ghosts K) (a b : AnyRange K) (p : Option (ProductArg K)) → After g a b p → ((r : AnyRange K) → p ≡ Some (Object r) → ⊥) → hi g b ≤ hi g a
+after_none g a b None is none = omega arith
+after_none g a b (Some (Subject r)) is none = omega (arith, is.0)
+after_none g a b (Some (Object r)) is none = absurd (none r refl)

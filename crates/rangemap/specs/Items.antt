@@ -1,5 +1,5 @@
 -- The spans of stored items.
-use Rattle.std.specs.Prelude.{◌≡◌, ℕ, suc, ◌+◌, ◌<◌, ◌≤◌, Bool, List, ◌∷◌, map, length, take, drop, Some, None, Option, slice_index_or}
+use Rattle.std.specs.Prelude.{◌≡◌, ℕ, suc, ◌+◌, ◌<◌, ◌≤◌, Bool, List, ◌∷◌, map, length, take, drop, Some, None, Option, set, slice_index_or}
 use Rattle.rangemap.specs.Contents.{Contents}
 use Rattle.rangemap.specs.declared.item.Item.{Item}
 use Rattle.ranges.specs.declared.range.any.AnyRange.{AnyRange}
@@ -33,6 +33,12 @@ abbrev pub tail_after : {K V : Type 0} → Ghosts K → (V → V → Bool) → V
 tail_after g eq v blank None zs = zs
 tail_after g eq v blank (Some (Subject r)) zs = put_made eq (lo g r) (hi g r) blank zs
 tail_after g eq v blank (Some (Object r)) zs = span_of g r v ∷ zs
+
+-- An item keeps the part of its range after the key as that is, in the form of its ends too; where it has none, and nothing is made of the key's, nothing is written.
+abbrev pub Rests : {K V : Type 0} → ℕ → V → Option V → Option (ProductArg K) → Contents K V → Contents K V → Type 0
+Rests i v blank None old new = new ≡ old
+Rests i v blank (Some (Subject r)) old new = blank ≡ None → new ≡ old
+Rests i v blank (Some (Object r)) old new = new ≡ record old { items = set old.items i (record { key = r; value = v }) }
 
 -- And with what was made of a part, if there is one.
 abbrev pub tail_made : {K V : Type 0} → Ghosts K → (V → V → Bool) → Option V → Option (AnyRange K) → List (Span V) → List (Span V)

@@ -19,11 +19,12 @@ pub(crate) struct Items<K, V> {
 
 impl<K, V> Model for Items<K, V> {
     ghost use Rattle.std.specs.Prelude.{vec_capacity};
+    ghost use Rattle.std.specs.Vec.{vec_ptr};
     ghost use Rattle.rangemap.specs.Contents.{Contents};
 
     ghost Value = { Contents K V };
 
-    ghost view = { λ a. record { items = a.list.items; room = vec_capacity a.list } };
+    ghost view = { λ a. record { items = a.list.items; room = vec_capacity a.list; block = vec_ptr a.list } };
 }
 
 impl<K: Key, V: Value> Items<K, V> {
@@ -48,7 +49,8 @@ impl<K: Key, V: Value> Items<K, V> {
     }
 
     pub(crate) fn clear(&mut self)
-        ensures { self.new ≡ record self.old { items = [] } }
+        ensures items { self.new.items ≡ [] }
+        ensures room { self.new.room ≡ self.old.room }
     {
         self.list.clear();
     }

@@ -1,7 +1,7 @@
 // The steps of a backward walk at one address.
-ghost use Rattle.std.specs.Prelude.{◌≡◌, ◌+◌, ◌-◌, ◌<◌, ◌≤◌, drop, length, set, MatchOption, MatchResult, slice_index_or};
+ghost use Rattle.std.specs.Prelude.{◌≡◌, ◌+◌, ◌-◌, ◌<◌, ◌≤◌, drop, length, set, None, MatchOption, MatchResult, slice_index_or};
 ghost use Rattle.rangemap.specs.Contents.{HasRoom};
-ghost use Rattle.rangemap.specs.Items.{ConnectedAt, Found, Free, listed, tail_after, tail_made};
+ghost use Rattle.rangemap.specs.Items.{ConnectedAt, Found, Free, Rests, listed, tail_after, tail_made};
 ghost use Rattle.rangemap.specs.Ranges.{Connected};
 ghost use Rattle.rangemap.specs.Search.{Index};
 ghost use Rattle.rangemap.specs.Spans.{Tight};
@@ -29,7 +29,8 @@ impl<K: Key, V: Value> Items<K, V> {
     pub(crate) fn put_made(&mut self, at: Spot, part: Option<AnyRange<K>>, made: Option<V>) -> Spot
         requires within { address at < length self.old.items }
         requires room { HasRoom 1 self.old }
-        ensures { Steps K.Key.own (more at) at self.old result self.new (tail_made K.Key.own V.eq made part (drop (next at) (listed K.Key.own self.old))) }
+        ensures steps { Steps K.Key.own (more at) at self.old result self.new (tail_made K.Key.own V.eq made part (drop (next at) (listed K.Key.own self.old))) }
+        ensures stays { made ≡ None → self.new ≡ self.old }
     {
         let (Some(range), Some(value)) = (part, made) else {
             return at;
@@ -48,7 +49,7 @@ impl<K: Key, V: Value> Items<K, V> {
         Spot::Kept(addr)
     }
 
-    // What follows the key stays with the item at addr; or what follows the item gets what was made of none.
+    // What follows the key stays with the item at addr, as it is; or what follows the item gets what was made of none.
     pub(crate) fn settle_after(
         &mut self,
         addr: usize,
@@ -58,7 +59,8 @@ impl<K: Key, V: Value> Items<K, V> {
     ) -> Spot
         requires within { addr < length self.old.items }
         requires room { HasRoom 1 self.old }
-        ensures { Steps K.Key.own 0 (Spot.Spent addr) self.old result self.new (tail_after K.Key.own V.eq value blank after (drop (addr + 1) (listed K.Key.own self.old))) }
+        ensures rests { Rests addr value blank after self.old self.new }
+        ensures steps { Steps K.Key.own 0 (Spot.Spent addr) self.old result self.new (tail_after K.Key.own V.eq value blank after (drop (addr + 1) (listed K.Key.own self.old))) }
     {
         match after {
             Some(ProductArg::Object(key)) => self.keep_part(addr, Item { key, value }),

@@ -53,7 +53,7 @@ module _ (b : Band) (xs : List ℤ) (x : ℤ) where
     first_other None h = same_many ∙ h
     first_other (Some f) h = first_more f h
 
-    counted_other : (t : BandTally) → BandCounted b xs t → BandCounted b (xs ++ x ∷ []) t
+    pub counted_other : (t : BandTally) → BandCounted b xs t → BandCounted b (xs ++ x ∷ []) t
     counted_other t h =
         record { number = h.number ∙ ap capped (sym same_many); first = first_other t.first h.first }
 
@@ -67,7 +67,7 @@ module _ (b : Band) (xs : List ℤ) (count : RawCount) (this : in_band b count.v
   first_this None p e h = rw e (record { earlier = xs; later = []; stands = refl; index = at; bears = this; none_earlier = h })
   first_this (Some f) p e h = rw e (first_more b xs count.value f h)
 
-  counted_this : (t u : BandTally) → GainsSample t u index count → BandCounted b xs t → BandCounted b (xs ++ count.value ∷ []) u
+  pub counted_this : (t u : BandTally) → GainsSample t u index count → BandCounted b xs t → BandCounted b (xs ++ count.value ∷ []) u
   counted_this t u gains h =
       record {
         number = gains.number ∙ ap (λ n. capped (n + 1)) h.number ∙ capped_more (how_many b xs) ∙ ap capped (sym one_more);

@@ -1,6 +1,6 @@
 -- A tally after one byte more. Assumes nothing.
-use Rattle.std.proofs.Common.{◌≡◌, ℕ, ◌<◌, List, [], ◌∷◌, ◌++◌, length, ℤ, sym, ap, ◌∙◌, subst, arith}
-use Rattle.std.proofs.lemmas.List.{length_push}
+use Rattle.std.proofs.Common.{◌≡◌, ℕ, ◌+◌, ◌<◌, List, [], ◌∷◌, ◌++◌, length, get_or, take, ℤ, sym, ap, ◌∙◌, subst, arith}
+use Rattle.std.proofs.lemmas.List.{append_assoc, take_more, length_push}
 use Rattle.kinds.specs.RawCount.{from_bytes}
 use Rattle.tally.specs.declared.counts.Counts.{Counts}
 use Rattle.tally.specs.declared.part.Part.{Part}
@@ -41,3 +41,8 @@ module _ (seen : List ℕ) (t u : Tally) (byte : ℕ) (h : Tallied seen t) where
         counts = subst (λ (xs : List ℤ). Counted xs u.counts) listed counts;
         left_over = none ∙ sym more.1;
       }
+
+-- one turn of a walk along a chunk
+pub one_further : (seen chunk : List ℕ) (i d : ℕ) → i < length chunk → (seen ++ take i chunk) ++ get_or chunk i d ∷ [] ≡ seen ++ take (i + 1) chunk
+one_further seen chunk i d h =
+    append_assoc seen (take i chunk) (get_or chunk i d ∷ []) ∙ ap (λ (l : List ℕ). seen ++ l) (sym (take_more chunk i d h))

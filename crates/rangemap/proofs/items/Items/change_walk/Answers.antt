@@ -37,7 +37,7 @@ returns-in-Some-Object-clause-changed g c found tight =
 pub returns-in_default-clause-changed : goal.returns-in_default-clause-changed
 returns-in_default-clause-changed g c found tight =
     let t = settled g (goal.at.returns-in_default-clause-changed g c).After-settle-at tight found in
-    settled_clear g.K.Key g.met.V.Eq.laws t c.drop_item.new.self c.in-Some-Subject.part (rw (c.in-Some-Subject.is, c.in-Some-Subject.field-0-is) refl) c.apply-blank.result (c.apply-blank.ensures None refl) c.settle-at.ensures.within c.in_default.ensures c.put_made-at.new.self c.put_made-at.result c.put_made-at.ensures c.drop_item.ensures.spans
+    settled_clear g.K.Key g.met.V.Eq.laws t c.drop_item.new.self c.in-Some-Subject.part (rw (c.in-Some-Subject.is, c.in-Some-Subject.field-0-is) refl) c.apply-blank.result (c.apply-blank.ensures None refl) c.settle-at.ensures.within c.in_default.ensures c.put_made-at.new.self c.put_made-at.result c.put_made-at.ensures.steps c.drop_item.ensures.spans
 
 pub returns-in-None-clause-changed : goal.returns-in-None-clause-changed
 returns-in-None-clause-changed g c found tight =
