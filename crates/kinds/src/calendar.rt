@@ -11,7 +11,7 @@ ghost use Rattle.lawful.proofs.Sealed.{sealed_same};
 
 use crate::date::{Date, seconds_in};
 use crate::refusal::KindRefusal;
-use lawful::Key;
+use lawful::{Key, OrderedKey};
 
 // how many days there are from 1970 to 2099
 const DAYS: u32 = 47482;
@@ -84,8 +84,6 @@ impl Key for CalendarSecond {
 
     ghost place = { λ k. place_of k.day k.second };
 
-    ghost ordered = { λ a b. row_order seconds_in a.day b.day a.second b.second a.limits.1 b.limits.1 };
-
     ghost positive = { Prim.search rules };
 
     ghost small = { Prim.search rules };
@@ -114,4 +112,8 @@ impl Key for CalendarSecond {
             second: (p - start_of(day)) as u32,
         })
     }
+}
+
+impl OrderedKey for CalendarSecond {
+    ghost ordered = { λ a b. row_order seconds_in a.day b.day a.second b.second a.limits.1 b.limits.1 };
 }

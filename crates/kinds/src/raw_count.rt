@@ -8,7 +8,7 @@ ghost use denote.Struct.Props.{props};
 ghost use Rattle.lawful.proofs.Sealed.{sealed_same};
 
 use crate::refusal::KindRefusal;
-use lawful::Key;
+use lawful::{Key, OrderedKey};
 
 #[derive(Clone, Copy, PartialEq, Eq, PartialOrd, Ord)]
 pub struct RawCount {
@@ -61,8 +61,6 @@ impl Key for RawCount {
 
     ghost place = { λ k. unsigned_abs (k.value +ℤ pos 8388608) };
 
-    ghost ordered = { Prim.search rules };
-
     ghost positive = { Prim.search rules };
 
     ghost small = { Prim.search rules };
@@ -86,4 +84,8 @@ impl Key for RawCount {
             None
         }
     }
+}
+
+impl OrderedKey for RawCount {
+    ghost ordered = { Prim.search rules };
 }

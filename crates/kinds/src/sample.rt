@@ -6,7 +6,7 @@ ghost use Rattle.lawful.proofs.Sealed.{sealed_same};
 ghost use Rattle.std.proofs.Common.{rules};
 
 use crate::refusal::KindRefusal;
-use lawful::Key;
+use lawful::{Key, OrderedKey};
 
 // A type of its own beside `RawCount`: one type for both would take the integer, its limits and the
 // first key's value as parameters, and each integer would still need its own way to a place.
@@ -48,8 +48,6 @@ impl Key for Sample {
 
     ghost place = { λ k. k.number };
 
-    ghost ordered = { Prim.search rules };
-
     ghost positive = { Prim.search rules };
 
     ghost small = { Prim.search rules };
@@ -71,4 +69,8 @@ impl Key for Sample {
             None
         }
     }
+}
+
+impl OrderedKey for Sample {
+    ghost ordered = { Prim.search rules };
 }

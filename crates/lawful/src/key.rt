@@ -1,8 +1,10 @@
 // What a kind of keys is: finitely many keys, numbered from 0 without gaps. A key's number is its place.
 ghost use Rattle.std.specs.Prelude.{◌≡◌, ℕ, ◌+◌, ◌-◌, ◌^◌, ◌<◌, ◌≤◌, MatchOption};
-ghost use Rattle.std.specs.Ordering.{nat_cmp};
+ghost use Rattle.std.specs.Ordering.{MatchOrdering};
 
-pub trait Key: Copy + Drop + Ord + Sized {
+use std::cmp::Ordering;
+
+pub trait Key: Copy + Drop + Sized {
     // how many keys there are
     const COUNT: u64;
 
@@ -18,6 +20,13 @@ pub trait Key: Copy + Drop + Ord + Sized {
     // The key at a place, none from the count on.
     fn at(p: u64) -> Option<Self>
         ensures { MatchOption result (COUNT ≤ p) (λ k. place k ≡ p) };
+
+    // Keys compare as their places.
+    fn compare(&self, other: &Self) -> Ordering
+        ensures { MatchOrdering result (place self.now < place other.now) (place self.now ≡ place other.now) (place other.now < place self.now) }
+    {
+        self.place().cmp(&other.place())
+    }
 
     // The key one place up, none past the last.
     fn succ(&self) -> Option<Self>
@@ -53,9 +62,6 @@ pub trait Key: Copy + Drop + Ord + Sized {
     {
         other.place().saturating_sub(self.place())
     }
-
-    // keys compare as their places
-    ghost ordered: { (a b : Self) → Self.cmp a b ≡ nat_cmp (place a) (place b) };
 
     ghost positive: { 0 < COUNT };
 

@@ -6,6 +6,7 @@ ghost use Rattle.lawful.specs.Grid.{grid_positive, grid_within, grid_row, grid_s
 ghost use Rattle.std.proofs.lemmas.Nat.{mod_below, div-add-mod'};
 
 use crate::key::Key;
+use crate::ordered_key::OrderedKey;
 
 // What makes a pair a key: the first kind names the second, and states the pair's count as its own.
 pub trait PairWith<B: Key>: Key {
@@ -38,10 +39,6 @@ impl<A: PairWith<B>, B: Key> Key for Pair<A, B> {
     ghost COUNT = { A.COUNT * B.COUNT };
 
     ghost place = { λ k. A.place k.first * B.COUNT + B.place k.second };
-
-    ghost ordered = { λ a b.
-        (λ i. ordering_then (A.ordered a.first b.first i) (B.ordered a.second b.second i))
-        ∙ grid_order B.COUNT (A.place a.first) (B.place a.second) (A.place b.first) (B.place b.second) (B.within a.second) (B.within b.second) };
 
     ghost positive = { grid_positive A.COUNT B.COUNT A.positive B.positive };
 
@@ -76,6 +73,12 @@ impl<A: PairWith<B>, B: Key> Key for Pair<A, B> {
         let second = B::at(column)?;
         Some(Pair { first, second })
     }
+}
+
+impl<A: PairWith<B> + OrderedKey, B: OrderedKey> OrderedKey for Pair<A, B> {
+    ghost ordered = { λ a b.
+        (λ i. ordering_then (A.ordered a.first b.first i) (B.ordered a.second b.second i))
+        ∙ grid_order B.COUNT (A.place a.first) (B.place a.second) (A.place b.first) (B.place b.second) (B.within a.second) (B.within b.second) };
 }
 
 // Where place p stands in rows of n places; no row from m on has a place below m * n.

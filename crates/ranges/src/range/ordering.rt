@@ -124,7 +124,7 @@ fn distance_zero<K: Key>(t: K, u: K) -> bool
 fn is_limit<K: Key>(k: K, side: Side) -> bool
     ensures { result ≡ (K.place k == limit_of K.Key.own side) }
 {
-    k == side.limit()
+    k.compare(&side.limit()) == Ordering::Equal
 }
 
 // Whether the key stands right beside the one that `is_limit` asks for.
@@ -138,7 +138,7 @@ fn is_beside_limit<K: Key>(k: K, side: Side) -> bool
 fn level<K: Key>(v1: K, v2: K, side: Side) -> BoundOrdering
     ensures { Compares side (K.place v1) (K.place v2) result }
 {
-    match v1.cmp(&v2) {
+    match v1.compare(&v2) {
         Ordering::Equal => BoundOrdering::Included(true),
         ord if ord == side.inward() => BoundOrdering::Included(false),
         _ => BoundOrdering::Excluded(distance_zero(v1, v2)),
@@ -149,7 +149,7 @@ fn level<K: Key>(v1: K, v2: K, side: Side) -> BoundOrdering
 fn aside<K: Key>(v1: K, v2: K, side: Side) -> BoundOrdering
     ensures { Compares side (mark K.Key.own (directed side (Bound.Included v1))) (mark K.Key.own (directed side (Bound.Excluded v2))) result }
 {
-    match v1.cmp(&v2) {
+    match v1.compare(&v2) {
         Ordering::Equal => BoundOrdering::Excluded(true),
         ord if ord == side.inward() => BoundOrdering::Included(distance_zero(v1, v2)),
         _ => BoundOrdering::Excluded(false),
@@ -165,7 +165,7 @@ pub(crate) fn direct_bound_cmp<K: Key>(b1: Bound<K>, b2: Bound<K>, side: Side) -
         (Bound::Included(v1), Bound::Excluded(v2)) => aside(v1, v2, side),
         (Bound::Included(v1), Bound::Unbounded) => BoundOrdering::Included(is_limit(v1, side)),
         (Bound::Excluded(v1), Bound::Included(v2)) => {
-            if v2.cmp(&v1) != side.inward() {
+            if v2.compare(&v1) != side.inward() {
                 return BoundOrdering::Included(false);
             }
             match apart(v1, v2) {
@@ -217,7 +217,7 @@ pub(crate) fn inverse_bound_cmp<K: Key>(b1: Bound<K>, b2: Bound<K>, side: Side) 
         (Bound::Included(v1), Bound::Unbounded) => BoundOrdering::Included(is_limit(v1, side)),
         (Bound::Excluded(v1), Bound::Included(v2)) => aside(v1, v2, side),
         (Bound::Excluded(v1), Bound::Excluded(v2)) => {
-            if v1.cmp(&v2) != side.inward() {
+            if v1.compare(&v2) != side.inward() {
                 return BoundOrdering::Excluded(false);
             }
             match apart(v1, v2) {
