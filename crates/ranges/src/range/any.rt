@@ -90,7 +90,7 @@ impl<K: Key> AnyRange<K> {
         match self.start {
             Bound::Included(a) => Some(a),
             Bound::Excluded(a) => a.succ(),
-            Bound::Unbounded => Some(<K as Key>::min()),
+            Bound::Unbounded => Some(K::min()),
         }
     }
 
@@ -104,7 +104,7 @@ impl<K: Key> AnyRange<K> {
         match self.end {
             Bound::Included(a) => Some(a),
             Bound::Excluded(a) => a.pred(),
-            Bound::Unbounded => Some(<K as Key>::max()),
+            Bound::Unbounded => Some(K::max()),
         }
     }
 

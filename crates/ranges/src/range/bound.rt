@@ -57,8 +57,8 @@ impl Side {
         ensures { K.place result ≡ limit_of K.Key.own self }
     {
         match self {
-            Side::Start => <K as Key>::min(),
-            Side::End => <K as Key>::max(),
+            Side::Start => K::min(),
+            Side::End => K::max(),
         }
     }
 }
