@@ -47,6 +47,20 @@ impl CalendarSecond {
     {
         self.second
     }
+
+    // The first key, as `Key` has it.
+    pub fn min() -> CalendarSecond
+        ensures { ⟦<CalendarSecond as Key>⟧.place result ≡ 0 }
+    {
+        <CalendarSecond as Key>::min()
+    }
+
+    // The last key, as `Key` has it.
+    pub fn max() -> CalendarSecond
+        ensures { ⟦<CalendarSecond as Key>⟧.place result + 1 ≡ ⟦<CalendarSecond as Key>⟧.COUNT }
+    {
+        <CalendarSecond as Key>::max()
+    }
 }
 
 // From the year, the day of the year from 1 on, and the time of day.

@@ -1,5 +1,5 @@
 // A digitiser's raw count: a signed number of 24 bits.
-ghost use Rattle.std.specs.Prelude.{◌≡◌, ◌⊎◌, pos, negsuc, ◌+ℤ◌, ◌-ℤ◌, ◌≤ℤ◌, ◌<ℤ◌, MatchResult, unsigned_abs};
+ghost use Rattle.std.specs.Prelude.{◌≡◌, ◌+◌, ◌⊎◌, pos, negsuc, ◌+ℤ◌, ◌-ℤ◌, ◌≤ℤ◌, ◌<ℤ◌, MatchResult, unsigned_abs};
 ghost use Rattle.kinds.specs.RawCount.{from_bytes};
 ghost use Rattle.kinds.specs.declared.refusal.KindRefusal.TheVariants.{BadKey};
 ghost use Rattle.std.proofs.Common.{arith, rules};
@@ -51,6 +51,20 @@ impl RawCount {
         ensures { result ≡ self.now.value }
     {
         self.value
+    }
+
+    // The first key, as `Key` has it.
+    pub fn min() -> RawCount
+        ensures { ⟦<RawCount as Key>⟧.place result ≡ 0 }
+    {
+        <RawCount as Key>::min()
+    }
+
+    // The last key, as `Key` has it.
+    pub fn max() -> RawCount
+        ensures { ⟦<RawCount as Key>⟧.place result + 1 ≡ ⟦<RawCount as Key>⟧.COUNT }
+    {
+        <RawCount as Key>::max()
     }
 }
 

@@ -1,5 +1,5 @@
 // The sample within a second, 0 to 199.
-ghost use Rattle.std.specs.Prelude.{◌≡◌, ◌<◌, ◌≤◌, MatchResult, refl};
+ghost use Rattle.std.specs.Prelude.{◌≡◌, ◌+◌, ◌<◌, ◌≤◌, MatchResult, refl};
 ghost use Rattle.kinds.specs.declared.refusal.KindRefusal.TheVariants.{BadKey};
 ghost use denote.Struct.Props.{props};
 ghost use Rattle.lawful.proofs.Sealed.{sealed_same};
@@ -38,6 +38,20 @@ impl Sample {
         ensures { result ≡ self.now.number }
     {
         self.number
+    }
+
+    // The first key, as `Key` has it.
+    pub fn min() -> Sample
+        ensures { ⟦<Sample as Key>⟧.place result ≡ 0 }
+    {
+        <Sample as Key>::min()
+    }
+
+    // The last key, as `Key` has it.
+    pub fn max() -> Sample
+        ensures { ⟦<Sample as Key>⟧.place result + 1 ≡ ⟦<Sample as Key>⟧.COUNT }
+    {
+        <Sample as Key>::max()
     }
 }
 

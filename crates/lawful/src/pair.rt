@@ -75,6 +75,22 @@ impl<A: PairWith<B>, B: Key> Key for Pair<A, B> {
     }
 }
 
+impl<A: PairWith<B>, B: Key> Pair<A, B> {
+    // The first key, as `Key` has it.
+    pub fn min() -> Pair<A, B>
+        ensures { ⟦<Pair<A, B> as Key>⟧.place result ≡ 0 }
+    {
+        <Pair<A, B> as Key>::min()
+    }
+
+    // The last key, as `Key` has it.
+    pub fn max() -> Pair<A, B>
+        ensures { ⟦<Pair<A, B> as Key>⟧.place result + 1 ≡ ⟦<Pair<A, B> as Key>⟧.COUNT }
+    {
+        <Pair<A, B> as Key>::max()
+    }
+}
+
 impl<A: PairWith<B> + OrderedKey, B: OrderedKey> OrderedKey for Pair<A, B> {
     ghost ordered = { λ a b.
         (λ i. ordering_then (A.ordered a.first b.first i) (B.ordered a.second b.second i))
