@@ -4,6 +4,7 @@ ghost use Rattle.kinds.specs.Values.{band_number};
 ghost use Rattle.kinds.specs.declared.refusal.KindRefusal.TheVariants.{BadKey};
 
 use crate::refusal::KindRefusal;
+use lawful::EqValue;
 
 #[derive(Clone, Copy, PartialEq, Eq)]
 pub enum Band {
@@ -11,6 +12,8 @@ pub enum Band {
     NearRail,
     Rail,
 }
+
+impl EqValue for Band {}
 
 // A row of a band table: the raw counts from `first` to `last` have the band.
 #[derive(Clone, Copy)]

@@ -11,7 +11,7 @@ ghost use Rattle.lawful.proofs.Sealed.{sealed_same};
 
 use crate::date::{Date, seconds_in};
 use crate::refusal::KindRefusal;
-use lawful::{Key, OrderedKey};
+use lawful::{EqValue, Key, OrderedKey};
 
 // how many days there are from 1970 to 2099
 const DAYS: u32 = 47482;
@@ -24,6 +24,8 @@ pub struct CalendarSecond {
     second: u32,
     ghost limits: { (day < 47482) × (second < seconds_in day) },
 }
+
+impl EqValue for CalendarSecond {}
 
 impl CalendarSecond {
     // From the day, counted from 0 at day 1 of 1970, and the second of the day: a constructor, as no one value is converted.

@@ -8,13 +8,15 @@ ghost use denote.Struct.Props.{props};
 ghost use Rattle.lawful.proofs.Sealed.{sealed_same};
 
 use crate::refusal::KindRefusal;
-use lawful::{Key, OrderedKey};
+use lawful::{EqValue, Key, OrderedKey};
 
 #[derive(Clone, Copy, PartialEq, Eq, PartialOrd, Ord)]
 pub struct RawCount {
     value: i32,
     ghost limits: { (negsuc 8388607 ≤ℤ value) × (value ≤ℤ pos 8388607) },
 }
+
+impl EqValue for RawCount {}
 
 impl TryFrom<i32> for RawCount {
     type Error = KindRefusal;

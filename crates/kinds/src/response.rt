@@ -3,6 +3,7 @@ ghost use Rattle.std.specs.Prelude.{◌≡◌, ◌<◌, ◌↔◌, IsTrue, Match
 
 use crate::polarity::Polarity;
 use crate::refusal::KindRefusal;
+use lawful::EqValue;
 
 #[derive(Clone, Copy, PartialEq, Eq)]
 pub struct Response {
@@ -10,6 +11,8 @@ pub struct Response {
     polarity: Polarity,
     ghost from: { 0 < number },
 }
+
+impl EqValue for Response {}
 
 impl Response {
     // From both fields: a constructor, as no one value is converted.

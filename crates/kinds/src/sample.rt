@@ -6,7 +6,7 @@ ghost use Rattle.lawful.proofs.Sealed.{sealed_same};
 ghost use Rattle.std.proofs.Common.{rules};
 
 use crate::refusal::KindRefusal;
-use lawful::{Key, OrderedKey};
+use lawful::{EqValue, Key, OrderedKey};
 
 // A type of its own beside `RawCount`: one type for both would take the integer, its limits and the
 // first key's value as parameters, and each integer would still need its own way to a place.
@@ -15,6 +15,8 @@ pub struct Sample {
     number: u8,
     ghost low: { number < 200 },
 }
+
+impl EqValue for Sample {}
 
 impl TryFrom<u8> for Sample {
     type Error = KindRefusal;

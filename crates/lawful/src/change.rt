@@ -10,7 +10,7 @@ pub trait Change<V: Value> {
 
     // To equal values, and to none, it gives equal answers every time; which of equal values is free.
     fn apply(&self, value: Option<V>) -> Option<V>
-        ensures { (a : Option V) → same V.eq value a ≡ true → same V.eq result (makes self.now a) ≡ true };
+        ensures { (a : Option V) → same V.equals value a ≡ true → same V.equals result (makes self.now a) ≡ true };
 
-    ghost respects: { (c : Self) (a b : Option V) → same V.eq a b ≡ true → same V.eq (makes c a) (makes c b) ≡ true };
+    ghost respects: { (c : Self) (a b : Option V) → same V.equals a b ≡ true → same V.equals (makes c a) (makes c b) ≡ true };
 }

@@ -14,10 +14,10 @@ pub struct Fill<V> {
 impl<V: Value> Change<V> for Fill<V> {
     ghost makes = { λ c a. filled c.value a };
 
-    ghost respects = { λ c a b e. filled_respects V.eq V.Eq.laws c.value a b e };
+    ghost respects = { λ c a b e. filled_respects V.equals V.Value.lawful c.value a b e };
 
     fn apply(&self, value: Option<V>) -> Option<V>
-        ensures { (a : Option V) → same V.eq value a ≡ true → same V.eq result (filled self.now.value a) ≡ true }
+        ensures { (a : Option V) → same V.equals value a ≡ true → same V.equals result (filled self.now.value a) ≡ true }
     {
         value.or(Some(self.value))
     }

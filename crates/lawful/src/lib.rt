@@ -17,4 +17,4 @@ pub use nothing::Nothing;
 pub use ordered_key::OrderedKey;
 pub use pair::{Pair, PairWith};
 pub use retire::Retire;
-pub use value::Value;
+pub use value::{EqValue, Value};

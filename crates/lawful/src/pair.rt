@@ -7,6 +7,7 @@ ghost use Rattle.std.proofs.lemmas.Nat.{mod_below, div-add-mod'};
 
 use crate::key::Key;
 use crate::ordered_key::OrderedKey;
+use crate::value::EqValue;
 
 // What makes a pair a key: the first kind names the second, and states the pair's count as its own.
 pub trait PairWith<B: Key>: Key {
@@ -32,6 +33,8 @@ pub struct Pair<A, B> {
     pub first: A,
     pub second: B,
 }
+
+impl<A: EqValue, B: EqValue> EqValue for Pair<A, B> {}
 
 impl<A: PairWith<B>, B: Key> Key for Pair<A, B> {
     const COUNT: u64 = A::PAIR_COUNT;

@@ -12,13 +12,13 @@ pub struct Retire<V> {
 }
 
 impl<V: Value> Change<V> for Retire<V> {
-    ghost makes = { λ c a. retired V.eq c.value a };
+    ghost makes = { λ c a. retired V.equals c.value a };
 
-    ghost respects = { λ c a b e. retired_respects V.eq V.Eq.laws c.value a b e };
+    ghost respects = { λ c a b e. retired_respects V.equals V.Value.lawful c.value a b e };
 
     fn apply(&self, value: Option<V>) -> Option<V>
-        ensures { (a : Option V) → same V.eq value a ≡ true → same V.eq result (retired V.eq self.now.value a) ≡ true }
+        ensures { (a : Option V) → same V.equals value a ≡ true → same V.equals result (retired V.equals self.now.value a) ≡ true }
     {
-        value.filter(|v| *v != self.value)
+        value.filter(|v| !v.equals(&self.value))
     }
 }

@@ -9,10 +9,10 @@ use lawful::Value;
 
 // A canonical list is the only one of its kind, the shortest, and as long as the size of what it holds.
 pub fn canon<V: Value>()
-    ensures { (count : ℕ) → Canon V.eq count }
+    ensures { (count : ℕ) → Canon V.equals count }
 {}
 
 // Every list of calls, from the empty list on, keeps the promise.
 pub fn every_run_keeps<V: Value>()
-    ensures { EveryRunKeeps V.eq }
+    ensures { EveryRunKeeps V.equals }
 {}

@@ -17,5 +17,5 @@ pub struct RangeMap<K: Key, V: Value> {
     store: Store<K, V>,
     ghost limited: { store.slots ≤ 4096 },
     // the stored ranges rise, each holds a key, and those that touch have unequal values
-    ghost canonical: { Canonical V.eq K.COUNT (listed K.Key store.items) } by { Canonical-prop V.eq K.COUNT (listed K.Key store.items) },
+    ghost canonical: { Canonical V.equals K.COUNT (listed K.Key store.items) } by { Canonical-prop V.equals K.COUNT (listed K.Key store.items) },
 }

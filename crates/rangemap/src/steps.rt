@@ -20,7 +20,7 @@ impl<K: Key, V: Value> Items<K, V> {
     // The address of the last item that shares a key with the given range, else of the last that touches it; else where it would stand.
     pub(crate) fn address_of(&self, key: &HeldRange<K>) -> Result<usize, usize>
         ensures within { Index (length self.now.items) result }
-        ensures found { Tight V.eq (listed K.Key.own self.now) → MatchResult result (Found K.Key.own key.now.range self.now.items) (Free K.Key.own key.now.range self.now.items) }
+        ensures found { Tight V.equals (listed K.Key.own self.now) → MatchResult result (Found K.Key.own key.now.range self.now.items) (Free K.Key.own key.now.range self.now.items) }
     {
         address(self.as_slice(), key, true)
     }
@@ -29,7 +29,7 @@ impl<K: Key, V: Value> Items<K, V> {
     pub(crate) fn put_made(&mut self, at: Spot, part: Option<AnyRange<K>>, made: Option<V>) -> Spot
         requires within { address at < length self.old.items }
         requires room { HasRoom 1 self.old }
-        ensures steps { Steps K.Key.own (more at) at self.old result self.new (tail_made K.Key.own V.eq made part (drop (next at) (listed K.Key.own self.old))) }
+        ensures steps { Steps K.Key.own (more at) at self.old result self.new (tail_made K.Key.own V.equals made part (drop (next at) (listed K.Key.own self.old))) }
         ensures stays { made ≡ None → self.new ≡ self.old }
     {
         let (Some(range), Some(value)) = (part, made) else {
@@ -60,7 +60,7 @@ impl<K: Key, V: Value> Items<K, V> {
         requires within { addr < length self.old.items }
         requires room { HasRoom 1 self.old }
         ensures rests { Rests addr value blank after self.old self.new }
-        ensures steps { Steps K.Key.own 0 (Spot.Spent addr) self.old result self.new (tail_after K.Key.own V.eq value blank after (drop (addr + 1) (listed K.Key.own self.old))) }
+        ensures steps { Steps K.Key.own 0 (Spot.Spent addr) self.old result self.new (tail_after K.Key.own V.equals value blank after (drop (addr + 1) (listed K.Key.own self.old))) }
     {
         match after {
             Some(ProductArg::Object(key)) => self.keep_part(addr, Item { key, value }),

@@ -24,7 +24,7 @@ impl<K: Key, V: Value> Items<K, V> {
     ) -> Spot
         requires within { addr < length self.old.items }
         requires room { HasRoom 1 self.old }
-        ensures { Steps K.Key.own 1 (Spot.Spent addr) self.old result self.new (tail_made K.Key.own V.eq made product.intersection (tail_after K.Key.own V.eq value blank product.after (drop (addr + 1) (listed K.Key.own self.old)))) }
+        ensures { Steps K.Key.own 1 (Spot.Spent addr) self.old result self.new (tail_made K.Key.own V.equals made product.intersection (tail_after K.Key.own V.equals value blank product.after (drop (addr + 1) (listed K.Key.own self.old)))) }
     {
         let at = self.settle_after(addr, value, product.after, blank);
         self.put_made(at, product.intersection, made)
@@ -35,7 +35,7 @@ impl<K: Key, V: Value> Items<K, V> {
         requires within { address at < length self.old.items }
         requires room { HasRoom 1 self.old }
         ensures first { address at ≡ 0 → listed K.Key.own self.new ≡ take (address at) (listed K.Key.own self.old) ++ drop (next at) (listed K.Key.own self.old) }
-        ensures later { (x : Item K V) → 0 < address at → x ≡ slice_index_or self.old.items (address at - 1) x → listed K.Key.own self.new ≡ take (address at - 1) (listed K.Key.own self.old) ++ put V.eq (span_at K.Key.own x) (drop (next at) (listed K.Key.own self.old)) }
+        ensures later { (x : Item K V) → 0 < address at → x ≡ slice_index_or self.old.items (address at - 1) x → listed K.Key.own self.new ≡ take (address at - 1) (listed K.Key.own self.old) ++ put V.equals (span_at K.Key.own x) (drop (next at) (listed K.Key.own self.old)) }
         ensures grows { Grows 0 self.old self.new }
     {
         let Some(prev) = self.previous_item_address(at.address()) else {
@@ -51,7 +51,7 @@ impl<K: Key, V: Value> Items<K, V> {
     fn change_walk<C: Change<V>>(&mut self, from: usize, range: &HeldRange<K>, change: &C)
         requires within { from < length self.old.items }
         requires room { HasRoom (length self.old.items + 1) self.old }
-        ensures changed { Found K.Key.own range.now.range self.old.items from → Reworks K.Key.own V.eq range.now.range (C.makes change.now) self.old self.new }
+        ensures changed { Found K.Key.own range.now.range self.old.items from → Reworks K.Key.own V.equals range.now.range (C.makes change.now) self.old self.new }
         ensures grows { Grows (length self.old.items + 1) self.old self.new }
     {
         let blank = change.apply(None);
@@ -97,7 +97,7 @@ impl<K: Key, V: Value> Items<K, V> {
     // Puts at each place of the range what the change makes of what is there.
     pub(crate) fn update<C: Change<V>>(&mut self, range: AnyRange<K>, change: &C)
         requires { HasRoom (length self.old.items + 1) self.old }
-        ensures changed { Reworks K.Key.own V.eq range (C.makes change.now) self.old self.new }
+        ensures changed { Reworks K.Key.own V.equals range (C.makes change.now) self.old self.new }
         ensures grows { Grows (length self.old.items + 1) self.old self.new }
     {
         let Some(held) = HeldRange::new(range) else {

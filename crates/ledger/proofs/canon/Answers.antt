@@ -6,8 +6,8 @@ use Rattle.ledger.proofs.canon.Goals as goal
 
 pub returns : goal.returns
 returns g c = λ count.
-    let eq = g.V.PartialEq.eq in
-    let law = g.met.V.Eq.laws in
+    let eq = g.V.Value.equals in
+    let law = g.met.V.Value.lawful in
     record {
       sized = size_canonical eq law count;
       one = matched_canonical eq law count;

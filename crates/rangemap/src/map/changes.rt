@@ -17,7 +17,7 @@ use ranges::AnyRange;
 impl<K: Key, V: Value> RangeMap<K, V> {
     // Puts the value at the places of the range, and answers the number of ranges then stored.
     pub fn insert(&mut self, range: AnyRange<K>, value: V) -> Result<usize, Decline>
-        ensures does { Does K.Key.own V.eq self.old.store (inserting (lo K.Key.own range) (hi K.Key.own range) value) (answer result) self.new.store }
+        ensures does { Does K.Key.own V.equals self.old.store (inserting (lo K.Key.own range) (hi K.Key.own range) value) (answer result) self.new.store }
         ensures keeps { Keeps self.old.store result self.new.store }
     {
         let store = &mut self.store;
@@ -36,7 +36,7 @@ impl<K: Key, V: Value> RangeMap<K, V> {
         range: AnyRange<K>,
         change: &C,
     ) -> Result<usize, Decline>
-        ensures does { Does K.Key.own V.eq self.old.store (updating (lo K.Key.own range) (hi K.Key.own range) (C.makes change.now)) (answer result) self.new.store }
+        ensures does { Does K.Key.own V.equals self.old.store (updating (lo K.Key.own range) (hi K.Key.own range) (C.makes change.now)) (answer result) self.new.store }
         ensures keeps { Keeps self.old.store result self.new.store }
     {
         let store = &mut self.store;
@@ -48,7 +48,7 @@ impl<K: Key, V: Value> RangeMap<K, V> {
     // Takes the places of the key out of the map, and answers the number of ranges then stored.
     #[tactic(auto, using(crate::proofs::Edits::remove_bare, crate::proofs::Edits::remove_keeps))]
     pub fn remove(&mut self, key: AnyRange<K>) -> Result<usize, Decline>
-        ensures does { Does K.Key.own V.eq self.old.store (removing (ends K.Key.own key).low (ends K.Key.own key).high) (answer result) self.new.store }
+        ensures does { Does K.Key.own V.equals self.old.store (removing (ends K.Key.own key).low (ends K.Key.own key).high) (answer result) self.new.store }
         ensures keeps { Keeps self.old.store result self.new.store }
     {
         let Some(held) = HeldRange::new(key) else {
@@ -68,7 +68,7 @@ impl<K: Key, V: Value> RangeMap<K, V> {
         key: AnyRange<K>,
         value: V,
     ) -> Result<usize, (Decline, (AnyRange<K>, V))>
-        ensures does { Does K.Key.own V.eq self.old.store (storing (ends K.Key.own key).low (ends K.Key.own key).high value) (answer_or result) self.new.store }
+        ensures does { Does K.Key.own V.equals self.old.store (storing (ends K.Key.own key).low (ends K.Key.own key).high value) (answer_or result) self.new.store }
         ensures stored { Placed self.old.store key value result self.new.store }
         ensures untouched { IfErr result (λ _. self.new ≡ self.old) }
     {

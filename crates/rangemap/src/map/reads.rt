@@ -25,7 +25,7 @@ impl<K: Key, V: Value> RangeMap<K, V> {
     #[tactic(auto, using(crate::proofs::Looks::get_absent, crate::proofs::Looks::get_value, crate::proofs::Looks::get_none))]
     pub fn get(&self, key: K) -> Option<V>
         ensures value { result ≡ held (stored K.Key.own self.now.store) (K.place key) }
-        ensures does { Does K.Key.own V.eq self.now.store (getting (K.place key)) (found result) self.now.store }
+        ensures does { Does K.Key.own V.equals self.now.store (getting (K.place key)) (found result) self.now.store }
     {
         match self.address_of(&HeldRange::single(key), false) {
             Ok(addr) => Some(self.store.items.get_at(addr).value),
@@ -36,7 +36,7 @@ impl<K: Key, V: Value> RangeMap<K, V> {
     // Whether a place of the range has a value.
     #[tactic(auto, using(crate::proofs::Looks::intersects_found, crate::proofs::Looks::intersects_none))]
     pub fn intersects(&self, key: AnyRange<K>) -> bool
-        ensures { Does K.Key.own V.eq self.now.store (intersecting (ends K.Key.own key).low (ends K.Key.own key).high) (said result) self.now.store }
+        ensures { Does K.Key.own V.equals self.now.store (intersecting (ends K.Key.own key).low (ends K.Key.own key).high) (said result) self.now.store }
     {
         let Some(key) = HeldRange::new(key) else {
             return false;

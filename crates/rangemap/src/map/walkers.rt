@@ -29,7 +29,7 @@ impl<K: Key, V: Value> RangeMap<K, V> {
     pub fn iter(&self) -> Ranges
         ensures place { result.at.place ≡ 0 }
         ensures left { result.at.left ≡ K.COUNT }
-        ensures does { Does K.Key.own V.eq self.now.store list nothing self.now.store }
+        ensures does { Does K.Key.own V.equals self.now.store list nothing self.now.store }
     {
         Ranges {
             at: Cursor::new::<K>(),
@@ -91,7 +91,7 @@ impl<K: Key, V: Value> RangeMap<K, V> {
     pub fn gaps(&self) -> Gaps
         ensures place { result.at.place ≡ 0 }
         ensures left { result.at.left ≡ K.COUNT }
-        ensures does { Does K.Key.own V.eq self.now.store list nothing self.now.store }
+        ensures does { Does K.Key.own V.equals self.now.store list nothing self.now.store }
     {
         Gaps {
             at: Cursor::new::<K>(),

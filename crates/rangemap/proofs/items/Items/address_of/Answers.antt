@@ -14,6 +14,6 @@ returns g c =
     record {
       within = within;
       found = λ tight.
-          searched keys g.V.PartialEq.eq key c.args.key.now.held c.args.self.now.items tight r within
+          searched keys g.V.Value.equals key c.args.key.now.held c.args.self.now.items tight r within
           (subst (λ xs. Rising (spans keys xs) → Searched true (lo keys key) (hi keys key) (spans keys xs) r) c.as_slice.ensures c.address.ensures.found);
     }
