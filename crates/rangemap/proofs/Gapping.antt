@@ -9,7 +9,7 @@ use Rattle.rangemap.specs.declared.item.Item.{Item}
 use Rattle.ranges.specs.declared.range.any.AnyRange.{AnyRange}
 use Rattle.rangemap.specs.declared.store.Store.{Store}
 use Rattle.rangemap.specs.Items.{span_at}
-use Rattle.rangemap.specs.Maps.{stored}
+use Rattle.rangemap.specs.Maps.{stored, RisesIn}
 use Rattle.rangemap.specs.Search.{Splits}
 use Rattle.rangemap.specs.Walks.{past, end_of, gap_end, gap_of, First}
 use Rattle.rangemap.proofs.Looks.{len_listed, span_listed, drop_listed}
@@ -53,36 +53,36 @@ module _ {V : Type 0} where
 
 -- where a look for the first gap past the place stands: what is left from the end `low` on, and the index i
 abbrev pub LooksOn : {K V : Type 0} → Ghosts K → Store K V → ℕ → ℕ → ℕ → Type 0
-LooksOn keys m p low i = past gap_end p (gaps keys.COUNT (stored keys m)) ≡ past gap_end p (gaps_from low keys.COUNT (drop i (stored keys m)))
+LooksOn keys m p low i = RisesIn keys m → past gap_end p (gaps keys.COUNT (stored keys m)) ≡ past gap_end p (gaps_from low keys.COUNT (drop i (stored keys m)))
 
 module _ {K V : Type 0} (keys : Ghosts K) (m : Store K V) (p : ℕ) where
-  pub looks_first : (i low : ℕ) → Rises 0 keys.COUNT (stored keys m) → Splits p (stored keys m) i → low ≡ end_of 0 (take i (stored keys m)) → LooksOn keys m p low i
-  looks_first i low r s e =
-      gaps_skip p 0 keys.COUNT (stored keys m) i r s.earlier ∙ ap (λ n. past gap_end p (gaps_from n keys.COUNT (drop i (stored keys m)))) (sym e)
+  pub looks_first : (i low : ℕ) → (RisesIn keys m → Splits p (stored keys m) i) → low ≡ end_of 0 (take i (stored keys m)) → LooksOn keys m p low i
+  looks_first i low s e r =
+      gaps_skip p 0 keys.COUNT (stored keys m) i r (s r).earlier ∙ ap (λ n. past gap_end p (gaps_from n keys.COUNT (drop i (stored keys m)))) (sym e)
 
   module _ (low i : ℕ) (h : LooksOn keys m p low i) where
     module _ (x : Item K V) (l : i < length m.items.items) (e : x ≡ get_or m.items.items i x) where
-      here : past gap_end p (gaps keys.COUNT (stored keys m)) ≡ past gap_end p (gap low (ends keys x.key).low (gaps_from (ends keys x.key).high keys.COUNT (drop (i + 1) (stored keys m))))
-      here = h ∙ ap (λ ys. past gap_end p (gaps_from low keys.COUNT ys)) (drop_listed keys m i x l e)
+      here : RisesIn keys m → past gap_end p (gaps keys.COUNT (stored keys m)) ≡ past gap_end p (gap low (ends keys x.key).low (gaps_from (ends keys x.key).high keys.COUNT (drop (i + 1) (stored keys m))))
+      here r = h r ∙ ap (λ ys. past gap_end p (gaps_from low keys.COUNT ys)) (drop_listed keys m i x l e)
 
-      pub looks_found : (high : ℕ) → high ≡ (ends keys x.key).low → low < high → p < high →
+      pub looks_found : (high : ℕ) → high ≡ (ends keys x.key).low → low < high → p < high → RisesIn keys m →
           First (past gap_end p (gaps keys.COUNT (stored keys m))) (Some (record { low = low; high = high; value = tt }))
-      looks_found high f a b =
-          (_, here ∙ (ap (λ n. past gap_end p (gap low n (gaps_from (ends keys x.key).high keys.COUNT (drop (i + 1) (stored keys m))))) (sym f) ∙ gap_first p low high _ a b))
+      looks_found high f a b r =
+          (_, here r ∙ (ap (λ n. past gap_end p (gap low n (gaps_from (ends keys x.key).high keys.COUNT (drop (i + 1) (stored keys m))))) (sym f) ∙ gap_first p low high _ a b))
 
       pub looks_more : (next : ℕ) → next ≡ (ends keys x.key).high → ((ends keys x.key).low ≤ low) ⊎ ((ends keys x.key).low ≤ p) → LooksOn keys m p next (i + 1)
-      looks_more next f o = here ∙ (gap_passed p low (ends keys x.key).low _ o ∙ ap (λ n. past gap_end p (gaps_from n keys.COUNT (drop (i + 1) (stored keys m)))) (sym f))
+      looks_more next f o r = here r ∙ (gap_passed p low (ends keys x.key).low _ o ∙ ap (λ n. past gap_end p (gaps_from n keys.COUNT (drop (i + 1) (stored keys m)))) (sym f))
 
     module _ (l : length m.items.items ≤ i) where
-      last : past gap_end p (gaps keys.COUNT (stored keys m)) ≡ past gap_end p (gap low keys.COUNT [])
-      last = h ∙ ap (λ ys. past gap_end p (gaps_from low keys.COUNT ys)) (drop_all i (stored keys m) (omega (arith, len_listed keys m)))
+      last : RisesIn keys m → past gap_end p (gaps keys.COUNT (stored keys m)) ≡ past gap_end p (gap low keys.COUNT [])
+      last r = h r ∙ ap (λ ys. past gap_end p (gaps_from low keys.COUNT ys)) (drop_all i (stored keys m) (omega (arith, len_listed keys m)))
 
-      pub looks_last : low < keys.COUNT → p < keys.COUNT →
+      pub looks_last : low < keys.COUNT → p < keys.COUNT → RisesIn keys m →
           First (past gap_end p (gaps keys.COUNT (stored keys m))) (Some (record { low = low; high = keys.COUNT; value = tt }))
-      looks_last a b = (_, last ∙ gap_first p low keys.COUNT [] a b)
+      looks_last a b r = (_, last r ∙ gap_first p low keys.COUNT [] a b)
 
-      pub looks_none : (keys.COUNT ≤ low) ⊎ (keys.COUNT ≤ p) → First (past gap_end p (gaps keys.COUNT (stored keys m))) None
-      looks_none o = last ∙ gap_passed p low keys.COUNT [] o
+      pub looks_none : (keys.COUNT ≤ low) ⊎ (keys.COUNT ≤ p) → RisesIn keys m → First (past gap_end p (gaps keys.COUNT (stored keys m))) None
+      looks_none o r = last r ∙ gap_passed p low keys.COUNT [] o
 
 module _ {K V : Type 0} (keys : Ghosts K) (m : Store K V) (rises : Rises 0 keys.COUNT (stored keys m)) (p : ℕ) (x : AnyRange K) (first : First (past gap_end p (gaps keys.COUNT (stored keys m))) (Some (gap_of keys x))) where
   abbrev all : List Gap

@@ -14,7 +14,7 @@ use Rattle.std.proofs.lemmas.List.{length-map, drop_more}
 use Rattle.rangemap.specs.declared.item.Item.{Item}
 use Rattle.rangemap.specs.declared.store.Store.{Store}
 use Rattle.rangemap.specs.Items.{span_at}
-use Rattle.rangemap.specs.Maps.{stored, Does}
+use Rattle.rangemap.specs.Maps.{stored, Does, RisesIn}
 use Rattle.rangemap.specs.Search.{Found, Rising, Joins, Last, Stands, Index}
 use Rattle.rangemap.proofs.Rising.{Parts, parts, span_read}
 use Rattle.ranges.specs.Parts.{span as ends}
@@ -43,25 +43,21 @@ high_within keys within (Included k) = omega (arith, within k)
 high_within keys within (Excluded k) = omega (arith, within k)
 high_within keys within Unbounded = omega arith
 
--- a call on a canonical map
-module _ {K V : Type 0} (keys : Ghosts K) (eq : V → V → Bool) (law : IsEquivalence eq) (m : Store K V) (canonical : Canonical eq keys.COUNT (stored keys m)) where
+-- a call on a map
+module _ {K V : Type 0} (keys : Ghosts K) (eq : V → V → Bool) (law : IsEquivalence eq) (m : Store K V) where
   -- that leaves it as it was
-  pub does_stay : (c : Call V) (a : Answer V) → Results eq law keys.COUNT m.slots (stored keys m) a (stored keys m) (outcome eq keys.COUNT (book eq law keys.COUNT m.slots (stored keys m)) c) →
+  pub does_stay : (c : Call V) (a : Answer V) → (Canonical eq keys.COUNT (stored keys m) → Results eq law keys.COUNT m.slots (stored keys m) a (stored keys m) (outcome eq keys.COUNT (book eq law keys.COUNT m.slots (stored keys m)) c)) →
       Does keys eq m c a m
-  does_stay c a like = record { slots = refl; step = step_like eq law keys.COUNT m.slots (stored keys m) c a (stored keys m) canonical like }
+  does_stay c a like = record { slots = refl; link = λ canonical. step_like eq law keys.COUNT m.slots (stored keys m) c a (stored keys m) canonical (like canonical) }
 
-  pub does_get : (p : ℕ) (r : Option V) → r ≡ held (stored keys m) p → Does keys eq m (get p) (found r) m
-  does_get p r e = does_stay (get p) (found r) (get_found eq law keys.COUNT m.slots (stored keys m) p r (same_eq eq law r (held (stored keys m) p) e))
+  pub does_get : (p : ℕ) (r : Option V) → (RisesIn keys m → r ≡ held (stored keys m) p) → Does keys eq m (get p) (found r) m
+  does_get p r e = does_stay (get p) (found r) (λ canonical. get_found eq law keys.COUNT m.slots (stored keys m) p r (same_eq eq law r (held (stored keys m) p) (e canonical.rises)))
 
-  pub does_intersects : (low high : ℕ) (b : Bool) → b ≡ meets keys.COUNT (held (stored keys m)) (within low high) → Does keys eq m (intersects low high) (said b) m
-  does_intersects low high b e = does_stay (intersects low high) (said b) (intersects_said eq law keys.COUNT m.slots (stored keys m) low high b e)
+  pub does_intersects : (low high : ℕ) (b : Bool) → (RisesIn keys m → b ≡ meets keys.COUNT (held (stored keys m)) (within low high)) → Does keys eq m (intersects low high) (said b) m
+  does_intersects low high b e = does_stay (intersects low high) (said b) (λ canonical. intersects_said eq law keys.COUNT m.slots (stored keys m) low high b (e canonical.rises))
 
   pub does_list : Does keys eq m list nothing m
-  does_list = does_stay list nothing (listed_nothing eq law keys.COUNT m.slots (stored keys m))
-
-  -- it rises
-  pub rising : Rising (stored keys m)
-  rising = (keys.COUNT, canonical.rises)
+  does_list = does_stay list nothing (λ canonical. listed_nothing eq law keys.COUNT m.slots (stored keys m))
 
 module _ {K V : Type 0} (keys : Ghosts K) (m : Store K V) where
   -- the list is as long as the Vec, and has the spans of its items
@@ -85,35 +81,36 @@ module _ {K V : Type 0} (keys : Ghosts K) (m : Store K V) where
         (parts 0 keys.COUNT (stored keys m) i (span_at keys x) (omega (arith, len_listed)) r)
 
 -- what the search found is whether a place of the range has a value
-pub intersects_found : {K V : Type 0} (keys : Ghosts K) (eq : V → V → Bool) (law : IsEquivalence eq) (m : Store K V) (canonical : Canonical eq keys.COUNT (stored keys m)) (key range : AnyRange K) (r : Result ℕ ℕ) (b : Bool) →
-    range ≡ key → (ends keys range).low < (ends keys range).high → Index (length m.items.items) r → Found 0 (ends keys range).low (ends keys range).high (stored keys m) r → b ≡ is_ok r → Does keys eq m (intersects (ends keys key).low (ends keys key).high) (said b) m
-intersects_found keys eq law m canonical key range r b same full index seen is =
+pub intersects_found : {K V : Type 0} (keys : Ghosts K) (eq : V → V → Bool) (law : IsEquivalence eq) (m : Store K V) (key range : AnyRange K) (r : Result ℕ ℕ) (b : Bool) →
+    range ≡ key → (ends keys range).low < (ends keys range).high → Index (length m.items.items) r → (Rising (stored keys m) → Found 0 (ends keys range).low (ends keys range).high (stored keys m) r) → b ≡ is_ok r → Does keys eq m (intersects (ends keys key).low (ends keys key).high) (said b) m
+intersects_found keys eq law m key range r b same full index seen is =
     subst (λ x. Does keys eq m (intersects (ends keys x).low (ends keys x).high) (said b) m) same
-    (does_intersects keys eq law m canonical (ends keys range).low (ends keys range).high b
-    (is ∙ sym (meets_found keys.COUNT (stored keys m) (ends keys range).low (ends keys range).high r full (index_listed keys m r index) canonical.rises seen)))
+    (does_intersects keys eq law m (ends keys range).low (ends keys range).high b
+    (λ rises. is ∙ sym (meets_found keys.COUNT (stored keys m) (ends keys range).low (ends keys range).high r full (index_listed keys m r index) rises (seen (keys.COUNT, rises)))))
 
-pub intersects_none : {K V : Type 0} (keys : Ghosts K) (eq : V → V → Bool) (law : IsEquivalence eq) (m : Store K V) (canonical : Canonical eq keys.COUNT (stored keys m)) (key : AnyRange K) →
+pub intersects_none : {K V : Type 0} (keys : Ghosts K) (eq : V → V → Bool) (law : IsEquivalence eq) (m : Store K V) (key : AnyRange K) →
     (ends keys key).high ≤ (ends keys key).low → Does keys eq m (intersects (ends keys key).low (ends keys key).high) (said false) m
-intersects_none keys eq law m canonical key bare =
-    does_intersects keys eq law m canonical (ends keys key).low (ends keys key).high false (sym (meets_empty keys.COUNT (stored keys m) (ends keys key).low (ends keys key).high bare))
+intersects_none keys eq law m key bare =
+    does_intersects keys eq law m (ends keys key).low (ends keys key).high false (λ rises. sym (meets_empty keys.COUNT (stored keys m) (ends keys key).low (ends keys key).high bare))
 
 -- what the search for one key found is the value at its place
 pub get_value : {K V : Type 0} (keys : Ghosts K) (m : Store K V) (p i : ℕ) (range : AnyRange K) (x : Item K V) → ends keys range ≡ record { low = p; high = p + 1 } →
-    Last 0 (ends keys range).low (ends keys range).high (stored keys m) i → i < length m.items.items → x ≡ get_or m.items.items i x → Rises 0 keys.COUNT (stored keys m) → Some x.value ≡ held (stored keys m) p
-get_value keys m p i range x single last l e rises =
+    (Rising (stored keys m) → Last 0 (ends keys range).low (ends keys range).high (stored keys m) i) → i < length m.items.items → x ≡ get_or m.items.items i x → RisesIn keys m → Some x.value ≡ held (stored keys m) p
+get_value keys m p i range x single seen l e rises =
+    let last = seen (keys.COUNT, rises) in
     let k : i < length (stored keys m) = omega (arith, len_listed keys m) in
     let joins : Joins 0 p (p + 1) (span_at keys x) = subst (λ y. Joins 0 y.low y.high (span_at keys x)) single (subst (Joins 0 (ends keys range).low (ends keys range).high) (span_listed keys m i x l e) (last.here (span_at keys x))) in
     sym (subst (λ (y : Span _). y.low ≤ p → p < y.high → held (stored keys m) p ≡ Some y.value) (span_listed keys m i x l e) (held_at 0 keys.COUNT (stored keys m) i (span_at keys x) k rises p) (omega (arith, joins.0)) (omega (arith, joins.1)))
 
 -- so the call answers as the ledger does
-pub get_stored : {K V : Type 0} (keys : Ghosts K) (eq : V → V → Bool) (law : IsEquivalence eq) (m : Store K V) (canonical : Canonical eq keys.COUNT (stored keys m)) (p i : ℕ) (range : AnyRange K) (x : Item K V) → ends keys range ≡ record { low = p; high = p + 1 } →
-    Last 0 (ends keys range).low (ends keys range).high (stored keys m) i → i < length m.items.items → x ≡ get_or m.items.items i x → Does keys eq m (get p) (found (Some x.value)) m
-get_stored keys eq law m canonical p i range x single last l e = does_get keys eq law m canonical p (Some x.value) (get_value keys m p i range x single last l e canonical.rises)
+pub get_stored : {K V : Type 0} (keys : Ghosts K) (eq : V → V → Bool) (law : IsEquivalence eq) (m : Store K V) (p i : ℕ) (range : AnyRange K) (x : Item K V) → ends keys range ≡ record { low = p; high = p + 1 } →
+    (Rising (stored keys m) → Last 0 (ends keys range).low (ends keys range).high (stored keys m) i) → i < length m.items.items → x ≡ get_or m.items.items i x → Does keys eq m (get p) (found (Some x.value)) m
+get_stored keys eq law m p i range x single seen l e = does_get keys eq law m p (Some x.value) (get_value keys m p i range x single seen l e)
 
-pub get_none : {K V : Type 0} (keys : Ghosts K) (m : Store K V) (p i : ℕ) (range : AnyRange K) → ends keys range ≡ record { low = p; high = p + 1 } → Stands 0 (ends keys range).low (ends keys range).high (stored keys m) i → None ≡ held (stored keys m) p
-get_none keys m p i range single stands =
-    sym (held_stands 0 p (p + 1) (stored keys m) i (subst (λ y. Stands 0 y.low y.high (stored keys m) i) single stands) p (omega arith) (omega arith))
+pub get_none : {K V : Type 0} (keys : Ghosts K) (m : Store K V) (p i : ℕ) (range : AnyRange K) → ends keys range ≡ record { low = p; high = p + 1 } → (Rising (stored keys m) → Stands 0 (ends keys range).low (ends keys range).high (stored keys m) i) → RisesIn keys m → None ≡ held (stored keys m) p
+get_none keys m p i range single seen rises =
+    sym (held_stands 0 p (p + 1) (stored keys m) i (subst (λ y. Stands 0 y.low y.high (stored keys m) i) single (seen (keys.COUNT, rises))) p (omega arith) (omega arith))
 
-pub get_absent : {K V : Type 0} (keys : Ghosts K) (eq : V → V → Bool) (law : IsEquivalence eq) (m : Store K V) (canonical : Canonical eq keys.COUNT (stored keys m)) (p i : ℕ) (range : AnyRange K) → ends keys range ≡ record { low = p; high = p + 1 } →
-    Stands 0 (ends keys range).low (ends keys range).high (stored keys m) i → Does keys eq m (get p) (found None) m
-get_absent keys eq law m canonical p i range single stands = does_get keys eq law m canonical p None (get_none keys m p i range single stands)
+pub get_absent : {K V : Type 0} (keys : Ghosts K) (eq : V → V → Bool) (law : IsEquivalence eq) (m : Store K V) (p i : ℕ) (range : AnyRange K) → ends keys range ≡ record { low = p; high = p + 1 } →
+    (Rising (stored keys m) → Stands 0 (ends keys range).low (ends keys range).high (stored keys m) i) → Does keys eq m (get p) (found None) m
+get_absent keys eq law m p i range single seen = does_get keys eq law m p None (get_none keys m p i range single seen)

@@ -4,8 +4,8 @@ use Rattle.std.specs.List.{insert}
 use Rattle.lawful.specs.declared.key.Key.{Ghosts}
 use Rattle.ranges.specs.declared.range.any.AnyRange.{AnyRange}
 use Rattle.ledger.specs.Ledger.{Call, Answer}
-use Rattle.ledger.specs.Spans.{Span}
-use Rattle.ledger.specs.Promise.{Step}
+use Rattle.ledger.specs.Spans.{Span, Rises}
+use Rattle.ledger.specs.Promise.{Link}
 use Rattle.rangemap.specs.declared.decline.Decline.{Decline}
 use Rattle.rangemap.specs.declared.decline.Decline.TheVariants.{EmptyRange, Connected, Full}
 use Rattle.rangemap.specs.declared.store.Store.{Store}
@@ -15,10 +15,10 @@ use Rattle.rangemap.specs.Items.{spans}
 abbrev pub stored : {K V : Type 0} → Ghosts K → Store K V → List (Span V)
 stored g m = spans g m.items.items
 
--- The call c, answered by a, took the map m to n, as it does the ledger.
+-- The call c, answered by a, took the map m to n: what the ledger does, if the list was canonical.
 pub record Does {K V : Type 0} (g : Ghosts K) (eq : V → V → Bool) (m : Store K V) (c : Call V) (a : Answer V) (n : Store K V) : Type 0 where
   pub slots : n.slots ≡ m.slots
-  pub step : Step eq g.COUNT m.slots (stored g m) (record { call = c; answer = a }) (stored g n)
+  pub link : Link eq g.COUNT m.slots (stored g m) (record { call = c; answer = a }) (stored g n)
 
 -- Declined, a change leaves the items as they were.
 abbrev pub Keeps : {K V : Type 0} → Store K V → Result ℕ Decline → Store K V → Type 0
@@ -47,6 +47,10 @@ pub record Settled {K V : Type 0} (m : Store K V) (r : Result ℕ Decline) (n : 
   pub slots : n.slots ≡ m.slots
   pub took : Took m r n
 
--- a walker's places add up to those of the keys
-abbrev pub Ready : {K : Type 0} → Ghosts K → ℕ → Type 0
-Ready g n = n ≡ g.COUNT
+-- the stored ranges rise
+abbrev pub RisesIn : {K V : Type 0} → Ghosts K → Store K V → Type 0
+RisesIn g m = Rises 0 g.COUNT (stored g m)
+
+-- the list rises, and a walker's places add up to those of the keys
+abbrev pub Ready : {K V : Type 0} → Ghosts K → Store K V → ℕ → Type 0
+Ready g m n = (n ≡ g.COUNT) × RisesIn g m

@@ -16,7 +16,7 @@ use lawful::{Key, Value};
 use ranges::{AnyRange, ProductArg};
 
 impl<K: Key, V: Value> Items<K, V> {
-    // `search::address` in the words of the walks: of a tight list, where the map's own call speaks of a canonical one.
+    // `search::address` in the words of the walks: of a tight list, where the map's own call speaks of one that rises.
     // The address of the last item that shares a key with the given range, else of the last that touches it; else where it would stand.
     pub(crate) fn address_of(&self, key: &HeldRange<K>) -> Result<usize, usize>
         ensures within { Index (length self.now.items) result }

@@ -4,7 +4,7 @@ ghost use Rattle.std.specs.Prelude.{◌≡◌, IfErr};
 ghost use Rattle.ledger.specs.Ledger.{insert as inserting, insert_disconnected as storing, remove as removing, update as updating};
 ghost use Rattle.ranges.specs.Parts.{span as ends};
 ghost use Rattle.rangemap.specs.Declines.{answer, answer_or};
-ghost use Rattle.rangemap.specs.Maps.{Does, Keeps, Placed};
+ghost use Rattle.rangemap.specs.Maps.{Does, Keeps, Placed, RisesIn};
 ghost use Rattle.rangemap.specs.Ranges.{lo, hi};
 
 use super::super::decline::Decline;
@@ -49,7 +49,7 @@ impl<K: Key, V: Value> RangeMap<K, V> {
     #[tactic(auto, using(crate::proofs::Edits::remove_bare, crate::proofs::Edits::remove_keeps))]
     pub fn remove(&mut self, key: AnyRange<K>) -> Result<usize, Decline>
         ensures does { Does K.Key.own V.equals self.old.store (removing (ends K.Key.own key).low (ends K.Key.own key).high) (answer result) self.new.store }
-        ensures keeps { Keeps self.old.store result self.new.store }
+        ensures keeps { RisesIn K.Key.own self.old.store → Keeps self.old.store result self.new.store }
     {
         let Some(held) = HeldRange::new(key) else {
             return Ok(self.store.items.len());

@@ -4,7 +4,7 @@ ghost use Rattle.std.specs.Option.{option_map};
 ghost use Rattle.ledger.specs.Ledger.{list, nothing};
 ghost use Rattle.ledger.specs.Spans.{gaps as gaps_of};
 ghost use Rattle.ranges.specs.Places.{low};
-ghost use Rattle.rangemap.specs.Maps.{Does, Ready, stored};
+ghost use Rattle.rangemap.specs.Maps.{Does, Ready, RisesIn, stored};
 ghost use Rattle.rangemap.specs.Search.{Splits};
 ghost use Rattle.rangemap.specs.Walks.{First, Walks, end, end_of, gap_end, gap_of, past};
 
@@ -39,7 +39,7 @@ impl<K: Key, V: Value> RangeMap<K, V> {
     // The index of the first stored range that ends past the place.
     fn first_past(&self, place: u64) -> usize
         ensures within { result ≤ length self.now.store.items.items }
-        ensures splits { Splits place (stored K.Key.own self.now.store) result }
+        ensures splits { RisesIn K.Key.own self.now.store → Splits place (stored K.Key.own self.now.store) result }
     {
         let Some(key) = K::at(place) else {
             return self.store.items.len();
@@ -53,7 +53,7 @@ impl<K: Key, V: Value> RangeMap<K, V> {
 impl Ranges {
     // The first stored range that ends past the walker's place, which moves to its end.
     pub fn next<K: Key, V: Value>(&mut self, map: &RangeMap<K, V>) -> Option<Item<K, V>>
-        ensures { Walks (end K.Key.own) (Ready K.Key.own) map.now.store.items.items self.old.at.place self.old.at.left result self.new.at.place self.new.at.left }
+        ensures { Walks (end K.Key.own) (Ready K.Key.own map.now.store) map.now.store.items.items self.old.at.place self.old.at.left result self.new.at.place self.new.at.left }
     {
         let item = *map
             .store
@@ -70,7 +70,7 @@ pub fn all_ranges<K: Key, V: Value>(
     heap: Global,
     map: &RangeMap<K, V>,
 ) -> Result<Vec<Item<K, V>>, AllocError>
-    ensures { IfOk result (λ v. v.items ≡ map.now.store.items.items) }
+    ensures { IfOk result (λ v. RisesIn K.Key.own map.now.store → v.items ≡ map.now.store.items.items) }
 {
     let mut out = Vec::with_capacity(heap, map.store.items.len())?;
     let mut walker = map.iter();
@@ -112,7 +112,7 @@ impl<K: Key, V: Value> RangeMap<K, V> {
 
     // The first gap that ends past the place.
     fn gap_past(&self, place: u64) -> Option<AnyRange<K>>
-        ensures { First (past gap_end place (gaps_of K.COUNT (stored K.Key.own self.now.store))) (option_map (gap_of K.Key.own) result) }
+        ensures { RisesIn K.Key.own self.now.store → First (past gap_end place (gaps_of K.COUNT (stored K.Key.own self.now.store))) (option_map (gap_of K.Key.own) result) }
     {
         let first = self.first_past(place);
         let mut start = self.start_at(first);
@@ -139,7 +139,7 @@ impl<K: Key, V: Value> RangeMap<K, V> {
 impl Gaps {
     // The first gap that ends past the walker's place, which moves to its end.
     pub fn next<K: Key, V: Value>(&mut self, map: &RangeMap<K, V>) -> Option<AnyRange<K>>
-        ensures { Walks gap_end (Ready K.Key.own) (gaps_of K.COUNT (stored K.Key.own map.now.store)) self.old.at.place self.old.at.left (option_map (gap_of K.Key.own) result) self.new.at.place self.new.at.left }
+        ensures { Walks gap_end (Ready K.Key.own map.now.store) (gaps_of K.COUNT (stored K.Key.own map.now.store)) self.old.at.place self.old.at.left (option_map (gap_of K.Key.own) result) self.new.at.place self.new.at.left }
     {
         let gap = map.gap_past(self.at.place)?;
         self.at.move_to(end_place(gap.end))?;
@@ -152,7 +152,7 @@ pub fn all_gaps<K: Key, V: Value>(
     heap: Global,
     map: &RangeMap<K, V>,
 ) -> Result<Vec<AnyRange<K>>, AllocError>
-    ensures { IfOk result (λ v. each (gap_of K.Key.own) v.items ≡ gaps_of K.COUNT (stored K.Key.own map.now.store)) }
+    ensures { IfOk result (λ v. RisesIn K.Key.own map.now.store → each (gap_of K.Key.own) v.items ≡ gaps_of K.COUNT (stored K.Key.own map.now.store)) }
 {
     let mut out = Vec::with_capacity(heap, map.store.items.len())?;
     let mut walker = map.gaps();

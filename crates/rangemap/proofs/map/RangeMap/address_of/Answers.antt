@@ -11,5 +11,5 @@ returns g c =
       within = subst (λ (n : ℕ). Index n c.address.result) (ap length c.as_slice.ensures) c.address.ensures.within;
       found =
           subst (λ xs. Rising (spans g.K.Key xs) → Searched c.args.connected key.low key.high (spans g.K.Key xs) c.address.result)
-          c.as_slice.ensures c.address.ensures.found (g.K.Key.COUNT, c.args.self.now.canonical.rises);
+          c.as_slice.ensures c.address.ensures.found;
     }

@@ -12,7 +12,7 @@ loop-item-init g c =
     let m = c.args.self.now in
     let zero : c.first_past-first.result ≡ c.first_past-first.result + 0 = omega arith in
     subst (λ i. LooksOn g.K.Key m.store c.args.place (low g.K.Key c.start_at-start.result) i) zero
-    (looks_first g.K.Key m.store c.args.place c.first_past-first.result (low g.K.Key c.start_at-start.result) m.canonical.rises c.first_past-first.ensures.splits c.start_at-start.ensures)
+    (looks_first g.K.Key m.store c.args.place c.first_past-first.result (low g.K.Key c.start_at-start.result) c.first_past-first.ensures.splits c.start_at-start.ensures)
 
 -- the item stands in the list at the index
 index : (g : _) (c : After-end_before-end g) → c.first_past-first.result + c.loop-item.item-index < length c.args.self.now.store.items.items

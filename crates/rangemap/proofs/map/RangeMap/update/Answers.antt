@@ -14,10 +14,7 @@ settled g c =
     let l = lo g.K.Key c.args.range in
     let h = hi g.K.Key c.args.range in
     let f = g.C.Change.makes c.args.change.now in
-    does_settled g.K.Key g.V.Value.equals g.met.V.Value.lawful m.store m.canonical l h f (update l h f) (ends_within g.K.Key g.met.K.Key.within c.args.range) refl c.copy.new.self _ c.settle.new.self c.copy.ensures refl refl c.update.ensures.changed c.settle.result c.settle.ensures
-
-pub invariant_of-self-clause-canonical : goal.invariant_of-self-clause-canonical
-invariant_of-self-clause-canonical g c = (settled g c).0.step.canonical
+    does_settled g.K.Key g.V.Value.equals g.met.V.Value.lawful m.store l h f (update l h f) (ends_within g.K.Key g.met.K.Key.within c.args.range) refl c.copy.new.self _ c.settle.new.self c.copy.ensures refl refl c.update.ensures.changed c.settle.result c.settle.ensures
 
 pub returns : goal.returns
 returns g c = let s = settled g (goal.at.returns g c).After-settle in record { does = s.0; keeps = s.1 }

@@ -8,8 +8,8 @@ loop-item-init g c =
     let m = c.args.map.now.store in
     let i = c.iter-walker.ensures in (
       omega (arith, i.place, i.left),
-      gather_none (end g.K.Key) m.items.items c.iter-walker.result.at.place (vec_items c.in_ok-out.out) i.place c.in_ok-out.ensures.items
-          (climbs_spans g.K.Key 0 g.K.Key.COUNT m.items.items c.args.map.now.canonical.rises),
+      λ rises. gather_none (end g.K.Key) m.items.items c.iter-walker.result.at.place (vec_items c.in_ok-out.out) i.place c.in_ok-out.ensures.items
+          (climbs_spans g.K.Key 0 g.K.Key.COUNT m.items.items rises),
     )
 
 pub loop-item-preserved : goal.loop-item-preserved
@@ -17,11 +17,11 @@ loop-item-preserved g c =
     let w = c.loop-item.walker in
     let s = c.in-Some.ensures in (
       s.total ∙ c.loop-item.invariant.0,
-      gather_more (end g.K.Key) c.args.map.now.store.items.items w.at.place c.next.new.self.at.place c.in-Some.item (vec_items c.loop-item.out)
-          (vec_items c.push.new.self) c.in_ok-push.ensures.items (s.next c.loop-item.invariant.0) c.loop-item.invariant.1,
+      λ rises. gather_more (end g.K.Key) c.args.map.now.store.items.items w.at.place c.next.new.self.at.place c.in-Some.item (vec_items c.loop-item.out)
+          (vec_items c.push.new.self) c.in_ok-push.ensures.items (s.next (c.loop-item.invariant.0, rises)) (c.loop-item.invariant.1 rises),
     )
 
 pub returns : goal.returns
 returns g c =
     let w = c.loop-item.walker in
-    gather_all (end g.K.Key) c.args.map.now.store.items.items w.at.place (vec_items c.loop-item.out) (c.in_default.ensures.none c.loop-item.invariant.0) c.loop-item.invariant.1
+    λ rises. gather_all (end g.K.Key) c.args.map.now.store.items.items w.at.place (vec_items c.loop-item.out) (c.in_default.ensures.none (c.loop-item.invariant.0, rises)) (c.loop-item.invariant.1 rises)

@@ -9,9 +9,8 @@ pub returns-in_err-move_to : goal.returns-in_err-move_to
 returns-in_err-move_to g c =
     let m = c.args.map.now in
     let stays = c.in_err-move_to.ensures in
-    let reach = gaps_reach g.K.Key m.store m.canonical.rises c.args.self.now.at.place c.in_ok-gap.gap c.in_ok-gap.ensures in
     rw (stays.0, c.from_residual-in_err-move_to.ensures)
-    (record { place = refl; left = refl; none = λ ready. absurd (stays.1 (omega (arith, reach.0, c.end_place.ensures)) (omega (arith, reach.1, ready, c.end_place.ensures))) })
+    (record { place = refl; left = refl; none = λ ready. let r = gaps_reach g.K.Key m.store ready.1 c.args.self.now.at.place c.in_ok-gap.gap (c.in_ok-gap.ensures ready.1) in absurd (stays.1 (omega (arith, r.0, c.end_place.ensures)) (omega (arith, r.1, ready.0, c.end_place.ensures))) })
 
 pub returns : goal.returns
 returns g c =
@@ -24,5 +23,5 @@ returns g c =
       falls = step.1;
       total = omega (arith, step.0, step.2);
       moves = moves;
-      next = λ _. subst (λ q. past gap_end p all ≡ gap_of g.K.Key c.in_ok-gap.gap ∷ past gap_end q all) (sym moves) (gaps_next g.K.Key m.store m.canonical.rises p c.in_ok-gap.gap c.in_ok-gap.ensures);
+      next = λ ready. subst (λ q. past gap_end p all ≡ gap_of g.K.Key c.in_ok-gap.gap ∷ past gap_end q all) (sym moves) (gaps_next g.K.Key m.store ready.1 p c.in_ok-gap.gap (c.in_ok-gap.ensures ready.1));
     }

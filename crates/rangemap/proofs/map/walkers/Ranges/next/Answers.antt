@@ -9,8 +9,7 @@ pub returns-in_err-item : goal.returns-in_err-item
 returns-in_err-item g c =
     let m = c.args.map.now in
     let w = c.args.self.now.at in
-    let none = ranges_none g.K.Key m.store m.canonical.rises w.place c.first_past.result c.first_past.ensures.splits (omega (arith, ap length c.as_slice.ensures, c.in_err-item.ensures.lookup.3)) in
-    subst (λ r. Walks (end g.K.Key) (Ready g.K.Key) m.store.items.items w.place w.left r w.place w.left) (sym c.from_residual.ensures) (record { place = refl; left = refl; none = λ _. none })
+    subst (λ r. Walks (end g.K.Key) (Ready g.K.Key m.store) m.store.items.items w.place w.left r w.place w.left) (sym c.from_residual.ensures) (record { place = refl; left = refl; none = λ ready. ranges_none g.K.Key m.store ready.1 w.place c.first_past.result (c.first_past.ensures.splits ready.1) (omega (arith, ap length c.as_slice.ensures, c.in_err-item.ensures.lookup.3)) })
 
 -- the item was read at the index
 index : (g : _) (c : After-past g) → c.first_past.result < length c.args.map.now.store.items.items
@@ -24,9 +23,8 @@ returns-in_err-move_to g c =
     let m = c.args.map.now in
     let at = (goal.at.returns-in_err-move_to g c).After-past in
     let stays = c.in_err-move_to.ensures in
-    let reach = ranges_reach g.K.Key m.store m.canonical.rises c.args.self.now.at.place c.first_past.result c.first_past.ensures.splits c.in_ok-item.field-0.now (index g at) (read g at) in
     rw (stays.0, c.from_residual-in_err-move_to.ensures)
-    (record { place = refl; left = refl; none = λ ready. absurd (stays.1 (omega (arith, reach.0, c.past.ensures)) (omega (arith, reach.1, ready, c.past.ensures))) })
+    (record { place = refl; left = refl; none = λ ready. let r = ranges_reach g.K.Key m.store ready.1 c.args.self.now.at.place c.first_past.result (c.first_past.ensures.splits ready.1) c.in_ok-item.field-0.now (index g at) (read g at) in absurd (stays.1 (omega (arith, r.0, c.past.ensures)) (omega (arith, r.1, ready.0, c.past.ensures))) })
 
 pub returns : goal.returns
 returns g c =
@@ -41,5 +39,5 @@ returns g c =
       falls = step.1;
       total = omega (arith, step.0, step.2);
       moves = moves;
-      next = λ _. subst (λ q. past (end g.K.Key) w.place xs ≡ x ∷ past (end g.K.Key) q xs) (sym moves) (ranges_next g.K.Key m.store m.canonical.rises w.place c.first_past.result c.first_past.ensures.splits x (index g at) (read g at));
+      next = λ ready. subst (λ q. past (end g.K.Key) w.place xs ≡ x ∷ past (end g.K.Key) q xs) (sym moves) (ranges_next g.K.Key m.store ready.1 w.place c.first_past.result (c.first_past.ensures.splits ready.1) x (index g at) (read g at));
     }
