@@ -2,7 +2,9 @@
 #![tactic(auto)]
 
 mod label;
+mod labels;
 #[cfg(test)]
 mod tests;
 
 pub use label::Label;
+pub use labels::Labels;

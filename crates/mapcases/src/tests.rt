@@ -1,5 +1,6 @@
 // Each test lists a map's ranges, or its gaps, by first and last key after some changes.
 use crate::label::Label;
+use crate::labels::Labels;
 use kinds::RawCount;
 use rangemap::{Decline, RangeMap, Slots, all_gaps, all_ranges};
 use ranges::AnyRange;
@@ -149,4 +150,23 @@ fn reads(rt: HostRuntime) -> Result<(), Fail> {
             Ok(())
         },
     }
+}
+
+// Three slots, and the raw counts 0 to 9 under A: 5 has A, 10 none, and over 4,097 slots nothing is made.
+#[test]
+fn labels_of_raw_counts(rt: HostRuntime) -> Result<(), Fail> {
+    let heap = rt.alloc();
+    let mut labels = Labels::without_slots(heap)?;
+    assert!(rt; answer(labels.insert(range(0, 10)?, A)) == 1011);
+    assert!(rt; labels.make(Slots::new(heap, 3)?).is_ok());
+    assert!(rt; answer(labels.insert(range(0, 10)?, A)) == 1);
+    assert!(rt;
+        labels
+            .get(RawCount::try_from(5)?)
+            .is_some_and(|label| label == A)
+    );
+    assert!(rt; labels.get(RawCount::try_from(10)?).is_none());
+    assert!(rt; labels.make(Slots::new(heap, 4_097)?).is_err());
+    assert!(rt; labels.get(RawCount::try_from(5)?).is_some());
+    Ok(())
 }
